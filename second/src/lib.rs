@@ -2,9 +2,11 @@
 //! Parse a file into trees, walk the trees, explicit edges. Clear before fast.
 #![forbid(unsafe_code)]
 
+pub mod answers;
 pub mod builder;
 pub mod bytes;
 pub mod calls;
+pub mod cases;
 pub mod check;
 pub mod command;
 pub mod expression;
