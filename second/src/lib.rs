@@ -1,0 +1,22 @@
+//! The second program of Ladrukhi: document 01 told once more, plainly.
+//! Parse a file into trees, walk the trees, explicit edges. Clear before fast.
+#![forbid(unsafe_code)]
+
+pub mod answers;
+pub mod builder;
+pub mod bytes;
+pub mod calls;
+pub mod cases;
+pub mod check;
+pub mod command;
+pub mod expression;
+pub mod lent;
+pub mod machine;
+pub mod names;
+pub mod number;
+pub mod order;
+pub mod place;
+pub mod program;
+pub mod record;
+pub mod session;
+pub mod values;
