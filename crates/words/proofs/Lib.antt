@@ -1,0 +1,5 @@
+-- Laws of `words`: Samples and Determined for the reader; Writing and Reading for the proofs here.
+pub mod Writing
+pub mod Reading
+pub mod Samples
+pub mod Determined
