@@ -75,12 +75,13 @@ unfolding decimalBy
 short zero n h = refl
 short (suc k) n h = ap (λ (t : Bool). cond t (lastDigit n ∷ []) (decimalBy k (n / 10) ++ (lastDigit n ∷ []))) (lt-ltb n 10 h)
 
-pub long : (k n : ℕ) → (k ≡ 0 → ⊥) → 10 ≤ n → decimalBy k n ≡ decimalBy (k - 1) (n / 10) ++ (lastDigit n ∷ [])
+pub longer : (k n : ℕ) → 10 ≤ n → decimalBy (suc k) n ≡ decimalBy k (n / 10) ++ (lastDigit n ∷ [])
 unfolding decimalBy
+longer k n h = ap (λ (t : Bool). cond t (lastDigit n ∷ []) (decimalBy k (n / 10) ++ (lastDigit n ∷ []))) (le-ltb n 10 h)
+
+pub long : (k n : ℕ) → (k ≡ 0 → ⊥) → 10 ≤ n → decimalBy k n ≡ decimalBy (k - 1) (n / 10) ++ (lastDigit n ∷ [])
 long zero n f h = absurd (f refl)
-long (suc k) n f h =
-    ap (λ (t : Bool). cond t (lastDigit n ∷ []) (decimalBy k (n / 10) ++ (lastDigit n ∷ []))) (le-ltb n 10 h)
-    ∙ ap (λ (j : ℕ). decimalBy j (n / 10) ++ (lastDigit n ∷ [])) (less k)
+long (suc k) n f h = longer k n h ∙ ap (λ (j : ℕ). decimalBy j (n / 10) ++ (lastDigit n ∷ [])) (less k)
   where
     less : (k : ℕ) → k ≡ suc k - 1
     less k = omega arith
