@@ -101,11 +101,11 @@ apply-fits op x y h k =
         (
           exclusive-fits x y h k,
           (
-            wrap-fits (x *ℤ y),
+            wrap-fits _,
             (
-              divided-fits y (wrap (floorDiv x y)) (λ e. wrap-fits (floorDiv x y)),
+              divided-fits y _ (λ e. wrap-fits _),
               (
-                divided-fits y (floorMod x y) (λ e. mod-fits x y k e),
+                divided-fits y _ (λ e. mod-fits x y k e),
                 (
                   and-fits x y h,
                   (
