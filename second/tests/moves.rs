@@ -176,10 +176,12 @@ fn cells_are_scalars_then_arrays_in_order() {
         plus_at(0, constant(2), constant(2)),
         plus_at(1, constant(0), constant(3)),
         plus_at(1, constant(1), array(0, constant(2))),
+        plus_at(2, constant(0), array(1, constant(0))),
+        plus_at(2, constant(2), constant(9)),
     ];
-    let mut bench = Bench::down(&tree(2, &[3, 2], vec![body]));
-    assert_eq!(bench.run(4), (4, 0));
-    assert_eq!(bench.store, [0, 1, 0, 0, 2, 3, 2]);
+    let mut bench = Bench::down(&tree(2, &[3, 2, 3], vec![body]));
+    assert_eq!(bench.run(6), (6, 0));
+    assert_eq!(bench.store, [0, 1, 0, 0, 2, 3, 2, 3, 0, 9]);
 }
 
 #[test]
