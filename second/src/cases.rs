@@ -97,7 +97,7 @@ fn nested_second(open: usize) -> Node {
 /// An expression of exactly so many bytes, from scalar 1 and constants; not every size below 17 is one.
 pub fn sized_expression(size: usize) -> Expression {
     // n leaves and their operators take 5 n - 2 bytes, and 2 more for each leaf that is a constant.
-    let fits = |n: &usize| 7 * n - 2 >= size && 5 * n - 2 <= size && (size + 2 - 5 * n) % 2 == 0;
+    let fits = |n: &usize| 7 * n - 2 >= size && 5 * n - 2 <= size && (size + 2 - 5 * n) & 1 == 0;
     let leaves = (1..=size)
         .find(fits)
         .expect("a size that an expression can have");
@@ -885,7 +885,7 @@ fn faults_in_order() -> Vec<Case> {
         ),
         case(
             "8 at 2, 6 at the end",
-            then(&[records(&[own.clone()])]),
+            then(&[encode(std::slice::from_ref(&own))]),
             "refused 6 3",
         ),
         case(

@@ -61,7 +61,7 @@ fn some_bytes(rng: &mut Rng, mut file: Vec<u8>) -> Vec<u8> {
     match rng.below(6) {
         0 => file.truncate(at),
         1 => file.insert(at, rng.byte()),
-        2 => file.extend((0..1 + rng.below(5)).map(|_| rng.next() as u8)),
+        2 => file.extend((0..1 + rng.below(5)).map(|_| rng.draw() as u8)),
         _ if at == file.len() => {}
         3 => drop(file.remove(at)),
         4 => file[at] = rng.byte(),

@@ -5,6 +5,9 @@ use second::generator::EDGES;
 use second::number::Number;
 use second::values::{apply, wrap, Operator};
 
+type Exact = fn(i128, i128) -> i128;
+type OfBits = fn(bool, bool) -> bool;
+
 /// Every pair of boundary operands.
 fn pairs() -> Vec<(i32, i32)> {
     let more = [5, -5, 12, 1 << 30, -(1 << 30), 46_341, -46_341];
@@ -24,7 +27,7 @@ fn value(operator: Operator, left: i32, right: i32) -> i32 {
 
 #[test]
 fn sums_differences_and_products_are_modulo_two_to_the_32() {
-    let exact: [(Operator, fn(i128, i128) -> i128); 3] = [
+    let exact: [(Operator, Exact); 3] = [
         (Operator::Add, |l, r| l + r),
         (Operator::Subtract, |l, r| l - r),
         (Operator::Multiply, |l, r| l * r),
@@ -51,7 +54,7 @@ fn wrap_keeps_what_is_in_range_and_turns_at_its_ends() {
 
 #[test]
 fn bits_are_taken_one_by_one() {
-    let by_bit: [(Operator, fn(bool, bool) -> bool); 3] = [
+    let by_bit: [(Operator, OfBits); 3] = [
         (Operator::Xor, |l, r| l != r),
         (Operator::And, |l, r| l && r),
         (Operator::Or, |l, r| l || r),
