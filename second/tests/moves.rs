@@ -415,3 +415,19 @@ fn end_is_30_in_main_alone() {
     bench.place = lent(DOWN, 1, 2, &[]);
     assert_eq!(bench.back(), 30);
 }
+
+#[test]
+fn one_step_back_arrives_where_the_step_came_from() {
+    let mut bench = Bench::down(&example());
+    let mut visited = vec![(bench.at(), bench.store.clone())];
+    while bench.step() == 0 {
+        visited.push((bench.at(), bench.store.clone()));
+    }
+    assert_eq!(visited.len(), 13);
+    visited.pop();
+    while let Some(earlier) = visited.pop() {
+        assert_eq!(bench.back(), 0);
+        assert_eq!((bench.at(), bench.store.clone()), earlier);
+    }
+    assert_eq!(bench.back(), 30);
+}
