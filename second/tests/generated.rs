@@ -21,7 +21,7 @@ fn generated_programs_keep_the_properties_and_meet_everything() {
 
 #[test]
 fn another_seed_does_too() {
-    try_seed(20_240_601, 1500);
+    try_seed(20_240_601, 800);
 }
 
 #[test]

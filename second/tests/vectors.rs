@@ -142,7 +142,7 @@ fn the_commands_write_cases_and_answers() {
 
 #[test]
 fn walks_print_what_they_met_or_fail() {
-    let (text, status) = second(&["walks", "3", "1500"], "");
+    let (text, status) = second(&["walks", "3", "600"], "");
     assert_eq!(status, 0);
     assert!(text.starts_with("number 0: ") && text.contains("\nnumber 34: "));
     assert_eq!(second(&["walks", "3", "1"], ""), (String::new(), 1));
