@@ -8,12 +8,15 @@ use crate::expression::Expression;
 use crate::generator::{self, EDGES};
 use crate::record::{Record, SetOperator};
 use crate::rng::Rng;
+use crate::stream::{self, Line};
 use crate::values::{apply, Operator};
+use crate::walk_cases;
 
 #[derive(Clone, Copy, Debug, PartialEq, Eq)]
 pub enum Family {
     Values,
     Check,
+    Walk,
 }
 
 impl Family {
@@ -21,32 +24,42 @@ impl Family {
         match name {
             "values" => Some(Family::Values),
             "check" => Some(Family::Check),
+            "walk" => Some(Family::Walk),
             _ => None,
         }
     }
 
     /// All case lines of the family, always the same.
     pub fn cases(self) -> String {
-        let lines = match self {
-            Family::Values => value_cases(),
-            Family::Check => check_cases().iter().map(|file| to_hex(file)).collect(),
-        };
-        lines.into_iter().map(|line| line + "\n").collect()
+        match self {
+            Family::Values => joined(value_cases()),
+            Family::Check => joined(check_cases().iter().map(|file| to_hex(file)).collect()),
+            Family::Walk => walk_cases::all(),
+        }
     }
 
-    /// An answer line for each case line, or the number (from 1) of the first that is none.
+    /// The answer lines, or the number (from 1) of the first case line that is none.
     pub fn answers(self, cases: &str) -> Result<String, usize> {
-        let mut text = String::new();
-        for (at, line) in cases.lines().enumerate() {
-            let answer = match self {
-                Family::Values => value_answer(line),
-                Family::Check => from_hex(line).map(|file| check_answer(&file)),
-            };
-            text += &answer.ok_or(at + 1)?;
-            text.push('\n');
+        match self {
+            Family::Values => line_by_line(cases, value_answer),
+            Family::Check => line_by_line(cases, |line| Some(check_answer(&from_hex(line)?))),
+            Family::Walk => stream::answers(cases, Line::is_of_walks),
         }
-        Ok(text)
     }
+}
+
+fn joined(lines: Vec<String>) -> String {
+    lines.into_iter().map(|line| line + "\n").collect()
+}
+
+/// An answer line for each case line.
+fn line_by_line(cases: &str, answer: fn(&str) -> Option<String>) -> Result<String, usize> {
+    let mut text = String::new();
+    for (at, line) in cases.lines().enumerate() {
+        text += &answer(line).ok_or(at + 1)?;
+        text.push('\n');
+    }
+    Ok(text)
 }
 
 fn value_cases() -> Vec<String> {
