@@ -8,6 +8,7 @@ use crate::expression::Expression;
 use crate::generator::{self, EDGES};
 use crate::record::{Record, SetOperator};
 use crate::rng::Rng;
+use crate::session_cases;
 use crate::stream::{self, Line};
 use crate::values::{apply, Operator};
 use crate::walk_cases;
@@ -17,6 +18,7 @@ pub enum Family {
     Values,
     Check,
     Walk,
+    Session,
 }
 
 impl Family {
@@ -25,6 +27,7 @@ impl Family {
             "values" => Some(Family::Values),
             "check" => Some(Family::Check),
             "walk" => Some(Family::Walk),
+            "session" => Some(Family::Session),
             _ => None,
         }
     }
@@ -35,6 +38,7 @@ impl Family {
             Family::Values => joined(value_cases()),
             Family::Check => joined(check_cases().iter().map(|file| to_hex(file)).collect()),
             Family::Walk => walk_cases::all(),
+            Family::Session => session_cases::all(),
         }
     }
 
@@ -44,6 +48,7 @@ impl Family {
             Family::Values => line_by_line(cases, value_answer),
             Family::Check => line_by_line(cases, |line| Some(check_answer(&from_hex(line)?))),
             Family::Walk => stream::answers(cases, Line::is_of_walks),
+            Family::Session => stream::answers(cases, |_| true),
         }
     }
 }

@@ -2,9 +2,12 @@
 //! what document 01 promises of its call.
 #![forbid(unsafe_code)]
 
-use second::place::MAX_FRAMES;
+use second::calls;
+use second::lent::LentPlace;
+use second::place::{Direction, Frame, Place, MAX_FRAMES};
+use second::raw_session::{malformed, other_stores, unfit, RawSession};
 use second::stream::{Desk, Line};
-use second::vectors::Family;
+use second::vectors::{from_hex, to_hex, Family};
 use std::collections::BTreeSet;
 use std::sync::OnceLock;
 
@@ -35,8 +38,10 @@ fn answer(desk: &mut Desk, line: &Line) -> String {
 /// A family's cases, made once.
 fn cases(family: Family) -> &'static str {
     static WALKS: OnceLock<String> = OnceLock::new();
+    static SESSIONS: OnceLock<String> = OnceLock::new();
     let made = match family {
         Family::Walk => &WALKS,
+        Family::Session => &SESSIONS,
         _ => unreachable!("no stream"),
     };
     made.get_or_init(|| family.cases())
@@ -183,7 +188,7 @@ fn walks_hold_what_the_rules_turn_on() {
 
 #[test]
 fn answers_of_a_walk_as_document_01_has_them() {
-    let example = second::vectors::to_hex(&second::builder::example().encode());
+    let example = to_hex(&second::builder::example().encode());
     let cases = format!(
         "p {example}\nc 0 0\ns 0\nr 12\nf\nq 13\nl 0 3 4 1 2 3\nf\nl 0 3 4 1 2 3\nx 2 4 7\nf\n\
          l 2 3 4 3 2 3\nb\nc 1\nf\np\nf\ns 1\n"
@@ -237,5 +242,148 @@ fn a_line_that_is_no_command_of_walks_is_told() {
     ] {
         let cases = format!("s 0\n{line}\n");
         assert_eq!(Family::Walk.answers(&cases), Err(2), "{line}");
+    }
+}
+
+#[test]
+fn sessions_are_the_same_each_time_and_small() {
+    is_a_sound_stream(Family::Session);
+}
+
+#[test]
+fn sessions_meet_every_number_of_reading_and_saving() {
+    let mut met = BTreeSet::new();
+    let mut read = 0;
+    each(Family::Session, |_, line, said| {
+        let name = line.to_string().remove(0);
+        let number: u8 = said
+            .split(' ')
+            .next()
+            .expect("a word")
+            .parse()
+            .expect("a number");
+        met.insert((name, number));
+        read += u32::from(name == 'o');
+    });
+    for number in [0, 1, 2, 3, 4, 5, 6, 7, 8, 20, 21] {
+        assert!(met.contains(&('o', number)), "o {number}");
+        assert!(met.contains(&('v', number)), "v {number}");
+    }
+    assert!(met.contains(&('o', 22)) && met.contains(&('v', 23)));
+    assert!(!met.contains(&('o', 23)) && !met.contains(&('v', 22)));
+    assert!(read > 4_000, "{read}");
+}
+
+/// A refused reading gives the blank place and leaves the store; an accepted file is the only one.
+#[test]
+fn readings_of_the_sessions_keep_their_promises() {
+    let mut accepted = 0;
+    each(Family::Session, |before, line, said| {
+        let Line::Read(file) = line else { return };
+        let words: Vec<&str> = said.splitn(3, ' ').collect();
+        let mut desk = before.clone();
+        answer(&mut desk, line);
+        assert_eq!(words[2], desk.state());
+        if words[0] != "0" {
+            assert_eq!(
+                (&desk.store, &desk.place),
+                (&before.store, &LentPlace::blank())
+            );
+            return;
+        }
+        let saved = answer(&mut desk, &Line::Save(file.len() + 1, 200));
+        assert_eq!(saved, format!("0 0 {} {}c8", file.len(), to_hex(file)));
+        accepted += 1;
+    });
+    assert!(accepted > 500, "{accepted}");
+}
+
+/// A refused save writes nothing; what was written reads back, and the rest of the buffer stays.
+#[test]
+fn saves_of_the_sessions_keep_their_promises() {
+    each(Family::Session, |before, line, said| {
+        let Line::Save(length, fill) = line else {
+            return;
+        };
+        let words: Vec<&str> = said.split(' ').collect();
+        let written: usize = words[2].parse().expect("the bytes written");
+        let buffer = from_hex(words.get(3).copied().unwrap_or("")).expect("the buffer");
+        assert_eq!(buffer.len(), *length);
+        assert!(buffer[written..].iter().all(|byte| byte == fill));
+        assert_eq!(written == 0, words[0] != "0");
+        if written > 0 {
+            let mut desk = before.clone();
+            desk.store.fill(-3);
+            answer(&mut desk, &Line::Read(buffer[..written].to_vec()));
+            assert_eq!(&desk, before);
+        }
+    });
+}
+
+#[test]
+fn answers_of_a_session_as_document_01_has_them() {
+    let example = to_hex(&second::builder::example().encode());
+    let cases = format!(
+        "p {example}\nc 1 -2\nl 0 3 4 1 2 3\nv 30 238\nv 27 238\nv 0 1\nn 2\n\
+         o 1000200000000300040001000200030004002100\n\
+         o 10002000000003000400010002000300\n\
+         o 100020000000030004000100020003000c00210001000000feffffff\n\
+         n 3\no 100020000000030004000100020003000c00210001000000feffffff\no\n"
+    );
+    let answers = "\
+        0 0 28 100020000000030004000100020003000c00210001000000feffffffeeee\n\
+        23 0 0 eeeeeeeeeeeeeeeeeeeeeeeeeeeeeeeeeeeeeeeeeeeeeeeeeeeeee\n\
+        23 0 0\n\
+        20 0 0 0 0 0 |\n\
+        22 0 0 0 0 0 |\n\
+        0 0 0 3 4 1 2 3 | 0=1 1=-2\n\
+        20 0 0 0 0 0 |\n\
+        22 0 0 0 0 0 |\n";
+    assert_eq!(Family::Session.answers(&cases), Ok(answers.to_string()));
+}
+
+#[test]
+fn a_line_that_is_no_command_of_sessions_is_told() {
+    for line in [
+        "o 0",
+        "o ",
+        "v 1",
+        "v 1 256",
+        "v 100001 0",
+        "n",
+        "n -1",
+        "n 100001",
+        "w",
+    ] {
+        let cases = format!("s 0\n{line}\n");
+        assert_eq!(Family::Session.answers(&cases), Err(2), "{line}");
+    }
+}
+
+/// The changes of `raw_session` are what they are named after.
+#[test]
+fn each_change_of_a_session_file_has_its_number() {
+    let file = second::builder::example().encode();
+    let place = LentPlace::of(&Place {
+        direction: Direction::Down,
+        a: 3,
+        b: 4,
+        frames: vec![Frame::new(Frame::FIRST, 3)],
+    });
+    let sound = RawSession::of(&place, &[1, -2]);
+    let number = |raw: &RawSession| {
+        let answer = calls::read(&file, &raw.encode(), &mut [0, 0]);
+        answer.refusal.map_or(0, |refusal| refusal.number.value())
+    };
+    assert_eq!(number(&sound), 0);
+    let lists = [
+        (22, malformed(&sound)),
+        (20, other_stores(&sound)),
+        (21, unfit(&sound)),
+    ];
+    for (expected, list) in lists {
+        for raw in list {
+            assert_eq!(number(&raw), expected, "{raw:?}");
+        }
     }
 }

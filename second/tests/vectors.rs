@@ -128,7 +128,12 @@ fn second(words: &[&str], input: &str) -> (String, i32) {
 
 #[test]
 fn the_commands_write_cases_and_answers() {
-    for (name, family) in [("values", Family::Values), ("check", Family::Check)] {
+    for (name, family) in [
+        ("values", Family::Values),
+        ("check", Family::Check),
+        ("walk", Family::Walk),
+        ("session", Family::Session),
+    ] {
         let (cases, status) = second(&["vectors", name], "");
         assert_eq!((&cases, status), (&family.cases(), 0));
         let (answers, status) = second(&["expect", name], &cases);
