@@ -97,7 +97,7 @@ fn nested_second(open: usize) -> Node {
 /// An expression of exactly so many bytes, from scalar 1 and constants; not every size below 17 is one.
 pub fn sized_expression(size: usize) -> Expression {
     // n leaves and their operators take 5 n - 2 bytes, and 2 more for each leaf that is a constant.
-    let fits = |n: &usize| 7 * n - 2 >= size && 5 * n - 2 <= size && (size + 2 - 5 * n) % 2 == 0;
+    let fits = |n: &usize| 7 * n - 2 >= size && 5 * n - 2 <= size && (size + 2 - 5 * n) & 1 == 0;
     let leaves = (1..=size)
         .find(fits)
         .expect("a size that an expression can have");
@@ -262,19 +262,28 @@ fn malformed_names() -> Vec<Case> {
     ]
 }
 
-/// Each body stands in IF, whose FI and branches are sound: label 2.
-fn malformed_expressions() -> Vec<Case> {
-    let with = |kind: u16, body: &[u8]| {
-        let (before, middle) = (kind < 8, [Record::Else, Record::Loop]);
-        let turn = &middle[if before { 0 } else { 1 }];
+/// A file with this expression in a record of the kind given, all else sound, and its label.
+fn with_expression(kind: u16, expression: &[u8]) -> (Vec<u8>, usize) {
+    let sound = [1, 0, 0];
+    let construct = |opener, test: &[u8], turn, closer, assertion: &[u8]| {
         joined(&[
             records(&[names(4, &[2, 2]), Record::Begin]),
-            raw(kind, body),
-            records(&[Record::Skip, turn.clone(), Record::Skip]),
-            raw(if before { 7 } else { 10 }, &[1, 0, 0]),
+            raw(opener, test),
+            records(&[Record::Skip, turn, Record::Skip]),
+            raw(closer, assertion),
             records(&[Record::End]),
         ])
     };
+    match kind {
+        5 => (construct(5, expression, Record::Else, 7, &sound), 2),
+        7 => (construct(5, &sound, Record::Else, 7, expression), 6),
+        8 => (construct(8, expression, Record::Loop, 10, &sound), 2),
+        10 => (construct(8, &sound, Record::Loop, 10, expression), 6),
+        _ => (with_raw(4, &[&[0, 0, 2, 0], expression].concat()), 2),
+    }
+}
+
+fn malformed_expressions() -> Vec<Case> {
     let sound = [
         (&[0, 1, 2, 3, 4][..], "constant"),
         (&[1, 3, 0], "scalar"),
@@ -299,17 +308,24 @@ fn malformed_expressions() -> Vec<Case> {
         (&[4, 0, 0], "code 4"),
         (&[255], "code 255"),
     ];
-    [5, 8]
-        .into_iter()
-        .flat_map(|kind| {
-            let named = move |name: &str| format!("kind {kind}: {name}");
-            let good =
-                sound.map(|(body, name)| case(&named(name), with(kind, body), "accepted 8 1 8"));
-            let bad =
-                broken.map(|(body, name)| case(&named(name), with(kind, body), "refused 4 2"));
-            good.into_iter().chain(bad)
-        })
-        .collect()
+    let mut cases = vec![];
+    for kind in [4, 5, 7, 8, 10] {
+        for (expression, name) in sound {
+            let (file, _) = with_expression(kind, expression);
+            let answer = if kind == 4 {
+                "accepted 4 1 8"
+            } else {
+                "accepted 8 1 8"
+            };
+            cases.push(case(&format!("kind {kind}: {name}"), file, answer));
+        }
+        for (expression, name) in broken {
+            let (file, label) = with_expression(kind, expression);
+            let answer = format!("refused 4 {label}");
+            cases.push(case(&format!("kind {kind}: {name}"), file, &answer));
+        }
+    }
+    cases
 }
 
 fn depths() -> Vec<Case> {
@@ -869,7 +885,7 @@ fn faults_in_order() -> Vec<Case> {
         ),
         case(
             "8 at 2, 6 at the end",
-            then(&[records(&[own.clone()])]),
+            then(&[encode(std::slice::from_ref(&own))]),
             "refused 6 3",
         ),
         case(

@@ -7,6 +7,8 @@ use crate::number::Refusal;
 use crate::place::{Direction, Place};
 use crate::program::Program;
 use crate::session::Session;
+use crate::vectors::Family;
+use crate::walk::walks;
 use std::ffi::{OsStr, OsString};
 use std::fmt::Write as _;
 use std::fs::File;
@@ -15,7 +17,8 @@ use std::path::{Path, PathBuf};
 use std::process::ExitCode;
 
 pub const USAGE: &str = "usage: second run | check FILE | start FILE SESSION [down|up] | \
-step FILE SESSION [N] | back FILE SESSION [N] | set FILE SESSION CELL VALUE | show FILE SESSION";
+step FILE SESSION [N] | back FILE SESSION [N] | set FILE SESSION CELL VALUE | \
+show FILE SESSION | vectors NAME | expect NAME | walks SEED COUNT";
 
 /// The steps that `run` makes at most.
 const RUN_STEPS: u32 = 1_000_000;
@@ -29,6 +32,8 @@ enum Trouble {
     /// A file's name and the reason.
     File(String, io::Error),
     Refused(Refusal),
+    /// The generated cases never met these.
+    NeverMet(Vec<String>),
 }
 
 impl From<Refusal> for Trouble {
@@ -44,6 +49,7 @@ pub fn main(words: &[OsString]) -> ExitCode {
         Err(Trouble::Refused(refusal)) => say(&format!("{refusal}\n")),
         Err(Trouble::WrongWords) => complain(USAGE, 2),
         Err(Trouble::File(name, reason)) => complain(&format!("second: {name}: {reason}"), 1),
+        Err(Trouble::NeverMet(what)) => complain(&format!("second: never met: {what:?}"), 1),
     }
 }
 
@@ -69,6 +75,9 @@ enum Command {
     Back(PathBuf, PathBuf, u32),
     Set(PathBuf, PathBuf, u32, i32),
     Show(PathBuf, PathBuf),
+    Vectors(Family),
+    Expect(Family),
+    Walks(u32, u32),
 }
 
 impl Command {
@@ -95,6 +104,9 @@ impl Command {
                 Command::Set(file.into(), session.into(), natural(cell)?, integer(value)?)
             }
             ("show", [file, session]) => Command::Show(file.into(), session.into()),
+            ("vectors", [family]) => Command::Vectors(Family::named(family.to_str()?)?),
+            ("expect", [family]) => Command::Expect(Family::named(family.to_str()?)?),
+            ("walks", [seed, count]) => Command::Walks(natural(seed)?, natural(count)?),
             _ => return None,
         })
     }
@@ -108,6 +120,9 @@ impl Command {
             Command::Back(file, session, n) => move_session(file, session, *n, run_back),
             Command::Set(file, session, cell, value) => set_cell(file, session, *cell, *value),
             Command::Show(file, session) => show_session(file, session),
+            Command::Vectors(family) => Ok(family.cases()),
+            Command::Expect(family) => expect(*family),
+            Command::Walks(seed, count) => walk(*seed, *count),
         }
     }
 }
@@ -152,6 +167,29 @@ fn run_standard_input() -> Result<String, Trouble> {
     let place = Place::start(&program, Direction::Down);
     let ran = run(&program, &place, &mut store, RUN_STEPS);
     Ok(steps_line(&ran) + &at_line(&ran.place) + &cell_lines(&store))
+}
+
+/// Answer lines for the case lines on standard input.
+fn expect(family: Family) -> Result<String, Trouble> {
+    let trouble = |reason| Trouble::File("standard input".to_string(), reason);
+    let mut cases = String::new();
+    io::stdin()
+        .lock()
+        .read_to_string(&mut cases)
+        .map_err(trouble)?;
+    family.answers(&cases).map_err(|line| {
+        let reason = format!("line {line} is no case");
+        trouble(io::Error::new(io::ErrorKind::InvalidData, reason))
+    })
+}
+
+/// The properties on generated programs; what they met, and trouble where something was not.
+fn walk(seed: u32, count: u32) -> Result<String, Trouble> {
+    let tally = walks(u64::from(seed), count as usize);
+    match tally.missing() {
+        missing if missing.is_empty() => Ok(tally.to_string()),
+        missing => Err(Trouble::NeverMet(missing)),
+    }
 }
 
 fn check_file(file: &Path) -> Result<String, Trouble> {

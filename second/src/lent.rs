@@ -38,6 +38,19 @@ impl LentPlace {
         }
     }
 
+    /// Innermost first; every slot where the count is too large.
+    pub fn used(&self) -> &[Frame] {
+        &self.slots[..self.used_count()]
+    }
+
+    pub fn unused(&self) -> &[Frame] {
+        &self.slots[self.used_count()..]
+    }
+
+    fn used_count(&self) -> usize {
+        usize::from(self.count).min(self.slots.len())
+    }
+
     /// None where no program can have it (21): direction, count, or a used slot past the count.
     pub fn place(&self) -> Option<Place> {
         let direction = Direction::from_code(self.direction)?;

@@ -63,6 +63,11 @@ impl Frame {
     pub fn is_call(self) -> bool {
         self.kind == Frame::CALL
     }
+
+    /// What an unused slot holds.
+    pub fn is_empty(self) -> bool {
+        self.kind == 0 && self.label == 0
+    }
 }
 
 /// An edge (a, b) in a direction, with frames innermost first.

@@ -1,8 +1,8 @@
 //! The check at every boundary, and number 6 by its definition.
 #![forbid(unsafe_code)]
 
-use second::answers::check_answer;
 use second::cases;
+use second::vectors::check_answer;
 
 #[test]
 fn every_case_has_its_stated_answer() {

@@ -4,12 +4,12 @@
 mod common;
 
 use common::{lent, Bench};
-use second::answers::check_answer;
 use second::builder::*;
 use second::cases::nested;
 use second::number::Number;
 use second::place::Direction;
 use second::values::{apply, Operator};
+use second::vectors::check_answer;
 
 fn value(operator: Operator, left: i32, right: i32) -> i32 {
     apply(operator, left, right).expect("no zero divisor")

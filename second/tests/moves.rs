@@ -176,10 +176,12 @@ fn cells_are_scalars_then_arrays_in_order() {
         plus_at(0, constant(2), constant(2)),
         plus_at(1, constant(0), constant(3)),
         plus_at(1, constant(1), array(0, constant(2))),
+        plus_at(2, constant(0), array(1, constant(0))),
+        plus_at(2, constant(2), constant(9)),
     ];
-    let mut bench = Bench::down(&tree(2, &[3, 2], vec![body]));
-    assert_eq!(bench.run(4), (4, 0));
-    assert_eq!(bench.store, [0, 1, 0, 0, 2, 3, 2]);
+    let mut bench = Bench::down(&tree(2, &[3, 2, 3], vec![body]));
+    assert_eq!(bench.run(6), (6, 0));
+    assert_eq!(bench.store, [0, 1, 0, 0, 2, 3, 2, 3, 0, 9]);
 }
 
 #[test]
@@ -411,5 +413,21 @@ fn end_is_30_in_main_alone() {
     bench.place = lent(UP, 2, 1, &[]);
     assert_eq!(bench.step(), 30);
     bench.place = lent(DOWN, 1, 2, &[]);
+    assert_eq!(bench.back(), 30);
+}
+
+#[test]
+fn one_step_back_arrives_where_the_step_came_from() {
+    let mut bench = Bench::down(&example());
+    let mut visited = vec![(bench.at(), bench.store.clone())];
+    while bench.step() == 0 {
+        visited.push((bench.at(), bench.store.clone()));
+    }
+    assert_eq!(visited.len(), 13);
+    visited.pop();
+    while let Some(earlier) = visited.pop() {
+        assert_eq!(bench.back(), 0);
+        assert_eq!((bench.at(), bench.store.clone()), earlier);
+    }
     assert_eq!(bench.back(), 30);
 }

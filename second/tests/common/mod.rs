@@ -4,6 +4,7 @@
 use second::builder::Tree;
 use second::calls::{self, Answer, RunAnswer};
 use second::lent::LentPlace;
+use second::number::Refusal;
 use second::place::{Direction, Frame, Place};
 
 pub struct Bench {
@@ -45,7 +46,7 @@ impl Bench {
 
     fn take(&mut self, answer: Answer) -> u8 {
         self.place = answer.place;
-        answer.refusal.map_or(0, |refusal| refusal.number.value())
+        plain_number(answer.refusal)
     }
 
     /// Steps made and the reason.
@@ -61,8 +62,7 @@ impl Bench {
 
     fn take_run(&mut self, answer: RunAnswer) -> (u32, u8) {
         self.place = answer.place;
-        let reason = answer.refusal.map_or(0, |refusal| refusal.number.value());
-        (answer.steps, reason)
+        (answer.steps, plain_number(answer.refusal))
     }
 
     /// `A B way` and then each frame as `KIND:LABEL`, innermost first.
@@ -88,6 +88,14 @@ impl Bench {
             }
         }
     }
+}
+
+/// The number of a refusal of a sound program, which has no record; 0 where there is none.
+fn plain_number(refusal: Option<Refusal>) -> u8 {
+    refusal.map_or(0, |refusal| {
+        assert_eq!(refusal.record, None);
+        refusal.number.value()
+    })
 }
 
 pub fn lent(direction: Direction, a: u16, b: u16, frames: &[(u16, u16)]) -> LentPlace {
