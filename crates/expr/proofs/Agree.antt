@@ -8,8 +8,8 @@
 use mathlib.Core.Path.{_≡_, refl, sym, ap, ap₂, _∙_}
 use mathlib.Core.List.{List}
 use mathlib.Core.Logic.{_⊎_, inl, inr, ⊎-elim}
-use mathlib.Core.Bool.{Bool, true, false, cond, _||_, _&&_, false≢true}
-use Prim.Native.Nat.{ℕ, _+_, _<_}
+use mathlib.Core.Bool.{Bool, true, false, cond, _||_, false≢true}
+use Prim.Native.Nat.{ℕ, _+_}
 use borrow.Author.Tests.{eq-eqb, eqb-true, ltb-true}
 use lib.Dec.{eqb, ltb}
 use lib.IntN.{ℤ, pos, negsuc}
@@ -19,7 +19,7 @@ use mir.Syntax.{w32}
 use mir.Val.{SFits}
 use Rattle.values.specs.Values.{Value, is, zeroDivisor, applyOp, InRange}
 use Rattle.values.proofs.Laws.{apply-fits}
-use Rattle.expr.specs.Tree.{Expr, con, var, read, bin, Valid, Arrays, Fault, badIndex, Worth, value, stop, worthOf, both, element, indexed, eval, Name, scalar, array, isScalar, isArray, occurs, known, There, Same, Apart}
+use Rattle.expr.specs.Tree.{Expr, con, var, read, bin, Valid, Arrays, badIndex, Worth, value, stop, worthOf, both, element, indexed, eval, Name, scalar, array, isArray, occurs, known, There, Same, Apart}
 use Rattle.expr.specs.Answers.{InCell}
 use Rattle.expr.proofs.Layer.{and-true}
 

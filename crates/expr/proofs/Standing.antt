@@ -1,11 +1,11 @@
 -- What the functions answer where a tree stands, for the layers that have checked the bytes before. Assumes nothing.
-use mathlib.Core.Path.{_≡_, ap}
+use mathlib.Core.Path.{_≡_}
 use mathlib.Core.List.{List}
 use Prim.Native.Nat.{ℕ, _≤_}
 use lib.IntN.{ℤ}
 use Rattle.codes.specs.Codes.{AllBytes}
 use Rattle.expr.specs.Tree.{Expr, depth, Valid, eval, Name, occurs, known}
-use Rattle.expr.specs.Bytes.{Stands, Got, parse, whole}
+use Rattle.expr.specs.Bytes.{Stands, parse, whole}
 use Rattle.expr.specs.Answers.{EndSays, endOf, packedWorth, InCell, movedTo, arraysOf, WorthSays, seenOf, knownOf}
 use Rattle.expr.specs.declared.End.the-variants.{At}
 use Rattle.expr.proofs.Format.{parse-of, whole-of, says}
