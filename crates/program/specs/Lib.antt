@@ -1,0 +1,4 @@
+pub mod Records
+pub mod Trees
+pub mod Says
+pub mod Walk
