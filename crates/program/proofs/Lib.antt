@@ -1,0 +1,3 @@
+-- The laws of program files.
+pub mod Bytes
+pub mod Offsets
