@@ -7,7 +7,7 @@ use native.Mathlib.Numerals.{add-one}
 use native.Mathlib.Omega.{arith}
 use lib.ListN.{length, take, drop, getD, length-append, length-drop, length-take}
 use lib.Seq.{drop-cons, drop-drop, getD-drop, drop-append-seam}
-use Rattle.expr.specs.Tree.{bytes16}
+use Rattle.codes.specs.Codes.{bytes16}
 use Rattle.program.specs.Says.{word}
 
 -- A file's bytes.

@@ -1,0 +1,4 @@
+-- The laws of expression codes.
+pub mod Layer
+pub mod Ends
+pub mod Format
