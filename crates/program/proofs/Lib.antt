@@ -1,3 +1,5 @@
 -- The laws of program files.
 pub mod Bytes
 pub mod Offsets
+pub mod Thirteen
+pub mod Sound
