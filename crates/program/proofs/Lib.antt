@@ -3,3 +3,5 @@ pub mod Bytes
 pub mod Offsets
 pub mod Thirteen
 pub mod Sound
+pub mod Complete
+pub mod Sizes

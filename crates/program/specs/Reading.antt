@@ -99,12 +99,14 @@ cellsFit v ls = lengthsFit ls && leb (v + sum ls) 2048
 unfoldable pub namesFit : ℕ → List ℕ → Bool
 namesFit v ls = leb v 64 && (leb (length ls) 16 && cellsFit v ls)
 
--- The record is within the sizes, after k others of which b are BEGIN.
-unfoldable pub sizedAt : List ℕ → ℕ → ℕ → ℕ → Bool
-sizedAt f at k b =
+-- A record of kind n is within the sizes, after k others of which b are BEGIN.
+unfoldable pub sizedAs : ℕ → List ℕ → ℕ → ℕ → ℕ → Bool
+sizedAs n f at k b =
     ltb k 1024
-    && cond (eqb (kindAt f at) 1) (namesFit (word f (at + 4)) (shortsAt f (at + 8) (word f (at + 6))))
-    (cond (eqb (kindAt f at) 2) (ltb b 64) true)
+    && cond (eqb n 1) (namesFit (word f (at + 4)) (shortsAt f (at + 8) (word f (at + 6)))) (cond (eqb n 2) (ltb b 64) true)
+
+abbrev pub sizedAt : List ℕ → ℕ → ℕ → ℕ → Bool
+sizedAt f at k b = sizedAs (kindAt f at) f at k b
 
 -- ---- the questions in turn
 unfoldable pub cutAt : List ℕ → ℕ → Bool
