@@ -5,3 +5,4 @@ pub mod Thirteen
 pub mod Sound
 pub mod Complete
 pub mod Sizes
+pub mod Asked
