@@ -6,3 +6,4 @@ pub mod Sound
 pub mod Complete
 pub mod Sizes
 pub mod Asked
+pub mod Walking
