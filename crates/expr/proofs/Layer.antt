@@ -9,7 +9,7 @@ use mathlib.Core.Bool.{Bool, true, false, _&&_}
 use native.Mathlib.Nat.{le-refl}
 use native.Mathlib.Omega.{arith}
 use borrow.Author.Tests.{lt-ltb, le-ltb, eq-eqb, ne-eqb, ltb-true, ltb-false, eqb-true, eqb-false}
-use Rattle.codes.specs.Codes.{word16, word32}
+use Rattle.codes.specs.Codes.{word16}
 use Rattle.expr.specs.Bytes.{Got, nothing, gotCon, gotVar, gotRead, gotBin, gotIf, layer, parse, whole, pickGot}
 
 module _ (f : ℕ → Got) (s : List ℕ) (at : ℕ) where
@@ -102,6 +102,43 @@ whole-step s at =
 pub whole-grows : (s : List ℕ) (at : ℕ) → at ≤ whole s at .next
 unfolding whole
 whole-grows s at = grows (length s - at) s at
+
+-- the two readers by the first byte, as a function has it in hand
+module _ (s : List ℕ) (at : ℕ) (h : at < length s) (tag : ℕ) (tg : tag ≡ getD s at 0) where
+  module _ (d : ℕ) (nz : d ≡ 0 → ⊥) where
+    pub parse-con : tag ≡ 0 → parse d s at ≡ gotCon s at
+    parse-con e = parse-step d s at nz ∙ layer-con _ s at h (sym tg ∙ e)
+
+    pub parse-var : tag ≡ 1 → parse d s at ≡ gotVar s at
+    parse-var e = parse-step d s at nz ∙ layer-var _ s at h (sym tg ∙ e)
+
+    pub parse-read : tag ≡ 2 → parse d s at ≡ gotRead (word16 s (at + 1)) (parse (d - 1) s (at + 3))
+    parse-read e = parse-step d s at nz ∙ layer-read _ s at h (sym tg ∙ e)
+
+    pub parse-bin : (tag ≡ 0 → ⊥) → (tag ≡ 1 → ⊥) → (tag ≡ 2 → ⊥)
+        → parse d s at ≡ gotIf (eqb tag 3) (gotBin (getD s (at + 1) 0) (parse (d - 1) s (at + 2)) (parse (d - 1) s (parse (d - 1) s (at + 2) .next)))
+    parse-bin a b c = rw tg (parse-step d s at nz ∙ layer-bin _ s at h (λ e. a (tg ∙ e)) (λ e. b (tg ∙ e)) (λ e. c (tg ∙ e)))
+
+  pub whole-con : tag ≡ 0 → whole s at ≡ gotCon s at
+  whole-con e = whole-step s at ∙ layer-con _ s at h (sym tg ∙ e)
+
+  pub whole-var : tag ≡ 1 → whole s at ≡ gotVar s at
+  whole-var e = whole-step s at ∙ layer-var _ s at h (sym tg ∙ e)
+
+  pub whole-read : tag ≡ 2 → whole s at ≡ gotRead (word16 s (at + 1)) (whole s (at + 3))
+  whole-read e = whole-step s at ∙ layer-read _ s at h (sym tg ∙ e)
+
+  pub whole-bin : (tag ≡ 0 → ⊥) → (tag ≡ 1 → ⊥) → (tag ≡ 2 → ⊥)
+      → whole s at ≡ gotIf (eqb tag 3) (gotBin (getD s (at + 1) 0) (whole s (at + 2)) (whole s (whole s (at + 2) .next)))
+  whole-bin a b c = rw tg (whole-step s at ∙ layer-bin _ s at h (λ e. a (tg ∙ e)) (λ e. b (tg ∙ e)) (λ e. c (tg ∙ e)))
+
+pub whole-out : (s : List ℕ) (at : ℕ) → length s ≤ at → whole s at ≡ nothing at
+whole-out s at h = whole-step s at ∙ layer-out _ s at h
+
+pub parse-out : (d : ℕ) (s : List ℕ) (at : ℕ) → length s ≤ at → parse d s at ≡ nothing at
+unfolding parse
+parse-out zero s at h = refl
+parse-out (suc d) s at h = layer-out _ s at h
 
 pub and-true : (a b : Bool) → a && b ≡ true → (a ≡ true) × (b ≡ true)
 and-true true b e = (refl, e)
