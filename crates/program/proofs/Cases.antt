@@ -13,7 +13,7 @@ use Rattle.expr.specs.Bytes.{Got, parse}
 use Rattle.expr.specs.Answers.{endOf, pickEnd}
 use Rattle.expr.specs.declared.End.{End}
 use Rattle.expr.specs.declared.End.the-variants.{At, Bad}
-use Rattle.expr.proofs.Layer.{parse-step, layer-out}
+use Rattle.expr.proofs.Layer.{parse-out}
 use Rattle.program.specs.Records.{isBegin, sum}
 use Rattle.program.specs.Says.{word}
 use Rattle.program.specs.Walk.{kindAt}
@@ -29,7 +29,7 @@ module _ (f : List ℕ) where
   kind-out at h = (sym (word-out (at + 2) (omega arith)), omega arith)
 
   expr-out : (i : ℕ) → length f ≤ i → exprAt f i .ok ≡ false
-  expr-out i h = rw (parse-step 16 f i (λ e. omega arith), layer-out _ f i h)
+  expr-out i h = rw (parse-out 16 f i h)
 
 -- ---- where an expression ends
 pub end-at : (g : Got) (e : End) (n : ℕ) → e ≡ At n → e ≡ endOf g → (g .ok ≡ true) × (g .next ≡ n)
