@@ -1,7 +1,7 @@
 -- The records of a row, one by one: what is read at a record's offset is that record, which is formed and within the sizes.
-use mathlib.Core.Path.{_≡_, refl, sym, ap, _∙_}
-use mathlib.Core.List.{List, [], _∷_, _++_}
-use Prim.Native.Nat.{ℕ, zero, suc, _+_, _^_, _≤_, _<_}
+use mathlib.Core.Path.{_≡_}
+use mathlib.Core.List.{List, [], _∷_}
+use Prim.Native.Nat.{ℕ, zero, suc, _+_, _^_, _<_}
 use native.Mathlib.Omega.{arith}
 use lib.ListN.{length, take, drop, getD}
 use Rattle.program.specs.Records.{Record, skip, kind, encodeRecord, bytesOf, Formed, InSize, FineFrom, begins, isBegin}

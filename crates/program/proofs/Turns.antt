@@ -6,7 +6,7 @@ use lib.IntN.{pos}
 use lib.ListN.{length, replicate}
 use Rattle.expr.specs.Tree.{con, var, bin, encode}
 use Rattle.expr.specs.Bytes.{parse, layer}
-use Rattle.program.specs.Records.{Record, names, begin, end, set, cell, from, loop, until, call, skip, bytesOf, encodeRecord, body, kind, words, sum}
+use Rattle.program.specs.Records.{names, begin, end, set, cell, from, loop, until, skip, bytesOf, encodeRecord, body, kind, words, sum}
 use Rattle.program.specs.Reading.{walkOf, walkFrom, wrongAt, cutAt, unknownAt, formedAs, setBody, sizedAs, namesFit, lengthsFit, shortsAt}
 use Rattle.program.specs.declared.Walked.{Walked}
 use Rattle.program.specs.declared.Walked.the-variants.{Fine, Faulty}
