@@ -8,7 +8,7 @@ use lib.Dec.{eqb, ltb}
 use mathlib.Core.Bool.{Bool, true, false, _&&_}
 use native.Mathlib.Nat.{le-refl}
 use native.Mathlib.Omega.{arith}
-use borrow.Author.Tests.{lt-ltb, le-ltb, eq-eqb, ne-eqb, ltb-true, ltb-false, eqb-true, eqb-false}
+use borrow.Author.Tests.{lt-ltb, le-ltb, ne-eqb, ltb-true, ltb-false, eqb-true, eqb-false}
 use Rattle.codes.specs.Codes.{word16}
 use Rattle.expr.specs.Bytes.{Got, nothing, gotCon, gotVar, gotRead, gotBin, gotIf, layer, parse, whole, pickGot}
 
