@@ -1,0 +1,5 @@
+pub mod Records
+pub mod Trees
+pub mod Says
+pub mod Walk
+pub mod Reading
