@@ -1,1 +1,124 @@
-// stub
+// STAND-IN. Prefix-coded expressions: whether one mentions a name, and whether its names are there.
+ghost use mathlib.Core.Path.{_≡_};
+ghost use Prim.Native.Nat.{ℕ, _+_, _*_, _^_, _<_, _≤_};
+ghost use lib.ListN.{getD};
+ghost use Rattle.expr.specs.Bytes.{whole};
+ghost use Rattle.expr.specs.Tree.{isScalar, isArray};
+ghost use mathlib.Core.Bool.{_||_, _&&_};
+ghost use lib.Dec.{ltb};
+ghost use Rattle.expr.specs.Answers.{nameOf, seenOf, knownOf};
+
+pub struct Seen {
+    pub found: bool,
+    pub next: usize,
+}
+
+pub struct Known {
+    pub ok: bool,
+    pub next: usize,
+}
+
+fn either(a: bool, b: bool) -> bool
+    ensures { λ r. ⌜ r ≡ (a || b) ⌝ }
+{
+    if a { true } else { b }
+}
+
+fn both(a: bool, b: bool) -> bool
+    ensures { λ r. ⌜ r ≡ (a && b) ⌝ }
+{
+    if a { b } else { false }
+}
+
+fn below(x: usize, n: usize) -> bool
+    ensures { λ r. ⌜ r ≡ ltb x n ⌝ }
+{
+    x < n
+}
+
+fn is_scalar(array: bool, number: usize, x: usize) -> bool
+    ensures { λ r. ⌜ r ≡ isScalar (nameOf array number) x ⌝ }
+{
+    if array { false } else { x == number }
+}
+
+fn is_array(array: bool, number: usize, x: usize) -> bool
+    ensures { λ r. ⌜ r ≡ isArray (nameOf array number) x ⌝ }
+{
+    if array { x == number } else { false }
+}
+
+// Whether the expression at `at` mentions the scalar, or the array, of that number; and where it ends.
+pub fn mentions(s: &[u8], at: usize, array: bool, number: usize) -> Seen
+    ensures { λ r. ⌜ r ≡ seenOf (nameOf array number) (whole (now (s .entry)) at) ⌝ }
+{
+    if s.len() <= at {
+        return Seen {
+            found: false,
+            next: at,
+        };
+    }
+    let tag = codes::byte(s, at);
+    if tag == 0 {
+        return Seen {
+            found: false,
+            next: at + 5,
+        };
+    }
+    if tag == 1 {
+        return Seen {
+            found: is_scalar(array, number, codes::short(s, at + 1)),
+            next: at + 3,
+        };
+    }
+    if tag == 2 {
+        let a = codes::short(s, at + 1);
+        let i = mentions(s, at + 3, array, number);
+        return Seen {
+            found: either(is_array(array, number, a), i.found),
+            next: i.next,
+        };
+    }
+    let l = mentions(s, at + 2, array, number);
+    let r = mentions(s, l.next, array, number);
+    Seen {
+        found: either(l.found, r.found),
+        next: r.next,
+    }
+}
+
+// Whether the names in the expression at `at` are all there; and where it ends.
+pub fn names_known(s: &[u8], at: usize, scalars: usize, arrays: usize) -> Known
+    ensures { λ r. ⌜ r ≡ knownOf scalars arrays (whole (now (s .entry)) at) ⌝ }
+{
+    if s.len() <= at {
+        return Known { ok: true, next: at };
+    }
+    let tag = codes::byte(s, at);
+    if tag == 0 {
+        return Known {
+            ok: true,
+            next: at + 5,
+        };
+    }
+    if tag == 1 {
+        return Known {
+            ok: below(codes::short(s, at + 1), scalars),
+            next: at + 3,
+        };
+    }
+    if tag == 2 {
+        let a = codes::short(s, at + 1);
+        let i = names_known(s, at + 3, scalars, arrays);
+        return Known {
+            ok: both(below(a, arrays), i.ok),
+            next: i.next,
+        };
+    }
+    let l = names_known(s, at + 2, scalars, arrays);
+    let r = names_known(s, l.next, scalars, arrays);
+    Known {
+        ok: both(l.ok, r.ok),
+        next: r.next,
+    }
+}
