@@ -1,4 +1,6 @@
 // Program files: the check that answers every file, and the table of a checked one.
+mod names;
+mod walk;
 
 // What the check answers: the counts of records, procedures and cells, or the number of the refusal and the record at fault.
 pub enum Checked {
