@@ -15,7 +15,10 @@ use mir.Val.{Fits, SFits, ofZ, toZ}
 use mir.ValLaws.{toZ-fits, toZ-ofZ, ofZ-toZ}
 use borrow.Author.Tests.{le-leb, leb-true, lt-ltb, ltb-true, eqb-true, eq-eqb}
 use Rattle.expr.specs.Tree.{Expr, con, var, read, bin, depth, Valid, encode}
-use Rattle.expr.specs.Bytes.{Stands, Got, parse, whole, layer, gotCon, gotVar, gotRead, gotBin, word16, word32}
+use Rattle.codes.specs.Codes.{word16, word32}
+use Rattle.codes.proofs.Digits.{number16, number32}
+use mir.Facts.{fits-ofZ}
+use Rattle.expr.specs.Bytes.{Stands, Got, parse, whole, layer, gotCon, gotVar, gotRead, gotBin}
 use Rattle.expr.proofs.Layer.{whole-ok, parse-step, layer-out, layer-con, layer-var, layer-read, layer-bin, layer-cases, and-true}
 
 -- the digits of a number in base 256
@@ -23,7 +26,7 @@ module _ (a b : ℕ) (ha : a < 256) (hb : b < 256) where
   digit0 : a ≡ (a + 256 * b) % 256
   digit0 = omega arith
 
-  digit1 : b ≡ (a + 256 * b) / 256
+  digit1 : b ≡ (a + 256 * b) / 256 % 256
   digit1 = omega arith
 
 module _ (a b c d : ℕ) (ha : a < 256) (hb : b < 256) (hc : c < 256) (hd : d < 256) where
@@ -36,14 +39,8 @@ module _ (a b c d : ℕ) (ha : a < 256) (hb : b < 256) (hc : c < 256) (hd : d < 
   wide2 : c ≡ (a + 256 * b + 65536 * c + 16777216 * d) / 65536 % 256
   wide2 = omega arith
 
-  wide3 : d ≡ (a + 256 * b + 65536 * c + 16777216 * d) / 16777216
+  wide3 : d ≡ (a + 256 * b + 65536 * c + 16777216 * d) / 16777216 % 256
   wide3 = omega arith
-
-number16 : (v : ℕ) → v % 256 + 256 * (v / 256) ≡ v
-number16 v = omega arith
-
-number32 : (v : ℕ) → v % 256 + 256 * (v / 256 % 256) + 65536 * (v / 65536 % 256) + 16777216 * (v / 16777216) ≡ v
-number32 v = omega arith
 
 -- the bytes at a position, one by one
 module _ (s : List ℕ) (at : ℕ) where
@@ -146,7 +143,7 @@ module _ (s : List ℕ) (B : (i : ℕ) → getD s i 0 < 256) where
       o
 
 -- and each such tree is found
-abbrev pub got : Expr → ℕ → Got
+abbrev got : Expr → ℕ → Got
 got e n = record { ok = true; tree = e; next = n }
 
 module _ (s : List ℕ) where
@@ -168,15 +165,15 @@ module _ (s : List ℕ) where
   unfolding Valid depth encode
   complete (con x) d at rest v h D =
       let r = room at (encode (con x) ++ rest) D (omega arith) in
-      let w : word32 s (at + 1) ≡ ofZ w32 x = long-at s at ∙ rw (part at 1 _ D, part at 2 _ D, part at 3 _ D, part at 4 _ D) (number32 (ofZ w32 x)) in
+      let w : word32 s (at + 1) ≡ ofZ w32 x = long-at s at ∙ rw (part at 1 _ D, part at 2 _ D, part at 3 _ D, part at 4 _ D) (number32 (ofZ w32 x) (fits-ofZ v .fits)) in
       rw (parse-step d s at (λ e. omega arith), layer-con _ s at (omega arith) (head at 0 _ D), le-leb (at + 5) (length s) (omega arith), w, toZ-ofZ w32 x v)
   complete (var x) d at rest v h D =
       let r = room at (encode (var x) ++ rest) D (omega arith) in
-      let w : word16 s (at + 1) ≡ x = short-at s at ∙ rw (part at 1 _ D, part at 2 _ D) (number16 x) in
+      let w : word16 s (at + 1) ≡ x = short-at s at ∙ rw (part at 1 _ D, part at 2 _ D) (number16 x v) in
       rw (parse-step d s at (λ e. omega arith), layer-var _ s at (omega arith) (head at 1 _ D), le-leb (at + 3) (length s) (omega arith), w)
   complete (read a i) d at rest v h D =
       let r = room at (encode (read a i) ++ rest) D (omega arith) in
-      let w : word16 s (at + 1) ≡ a = short-at s at ∙ rw (part at 1 _ D, part at 2 _ D) (number16 a) in
+      let w : word16 s (at + 1) ≡ a = short-at s at ∙ rw (part at 1 _ D, part at 2 _ D) (number16 a (v .0)) in
       let n : at + 3 + length (encode i) ≡ at + length (encode (read a i)) = omega arith in
       rw (parse-step d s at (λ e. omega arith), layer-read _ s at (omega arith) (head at 2 _ D), complete i (d - 1) (at + 3) rest (v .1) (omega arith) (rest-at at 3 _ D), w, n)
   complete (bin o l r) d at rest v h D =

@@ -6,7 +6,8 @@ use Prim.Native.Nat.{ℕ, _+_, _-_, _≤_, _<_}
 use lib.Dec.{ltb}
 use lib.ListN.{length, getD}
 use Rattle.expr.specs.Tree.{known}
-use Rattle.expr.specs.Bytes.{whole, word16}
+use Rattle.expr.specs.Bytes.{whole}
+use Rattle.codes.specs.Codes.{word16}
 use Rattle.expr.specs.Answers.{knownOf}
 use Rattle.expr.specs.declared.Known.{Known}
 use Rattle.expr.proofs.Layer.{layer-out, layer-con, layer-var, layer-read, layer-bin, whole-step, whole-grows}

@@ -1,5 +1,6 @@
--- What the proofs of several functions use.
+-- The laws of expression codes.
 pub mod Layer
+pub mod Ends
+pub mod Format
 pub mod Names
 pub mod Knowns
-pub mod Format

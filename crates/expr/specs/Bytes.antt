@@ -8,18 +8,12 @@ use lib.Dec.{ltb, leb, eqb}
 use lib.IntN.{pos}
 use mir.Syntax.{w32}
 use mir.Val.{toZ}
+use Rattle.codes.specs.Codes.{word16, word32}
 use Rattle.expr.specs.Tree.{Expr, con, var, read, bin, encode}
 
 -- THE FORMAT: the bytes of e stand in s from at up to n
 unfoldable pub Stands : List ℕ → ℕ → Expr → ℕ → Type 0
 Stands s at e n = (rest : List ℕ) × (drop at s ≡ encode e ++ rest) × (n ≡ at + length (encode e))
-
--- numbers in the bytes; past the end there are zeros
-abbrev pub word16 : List ℕ → ℕ → ℕ
-word16 s i = getD s i 0 + 256 * getD s (i + 1) 0
-
-abbrev pub word32 : List ℕ → ℕ → ℕ
-word32 s i = getD s i 0 + 256 * getD s (i + 1) 0 + 65536 * getD s (i + 2) 0 + 16777216 * getD s (i + 3) 0
 
 -- what a reader makes of the bytes: a tree and where it ends, in every case, and whether the bytes are that tree's
 pub record Got : Type 0 where

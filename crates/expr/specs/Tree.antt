@@ -7,6 +7,7 @@ use lib.Dec.{ltb, eqb}
 use lib.IntN.{ℤ, pos, negsuc}
 use mir.Syntax.{w32}
 use mir.Val.{SFits, ofZ, toZ}
+use Rattle.codes.specs.Codes.{bytes16, bytes32}
 
 -- a constant, a scalar by number, an array by number read at an index, an operator on two sides
 pub data Expr : Type 0 where
@@ -27,13 +28,6 @@ Valid (con v) = SFits w32 v
 Valid (var x) = x < 2 ^ 16
 Valid (read a i) = (a < 2 ^ 16) × Valid i
 Valid (bin o l r) = (o < 16) × (Valid l × Valid r)
-
--- little-endian
-abbrev pub bytes16 : ℕ → List ℕ
-bytes16 v = v % 256 ∷ v / 256 ∷ []
-
-abbrev pub bytes32 : ℕ → List ℕ
-bytes32 v = v % 256 ∷ v / 256 % 256 ∷ v / 65536 % 256 ∷ v / 16777216 ∷ []
 
 unfoldable pub encode : Expr → List ℕ
 encode (con v) = 0 ∷ bytes32 (ofZ w32 v)

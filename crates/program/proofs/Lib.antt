@@ -1,3 +1,5 @@
--- What the proofs of several functions use.
+-- The laws of program files.
+pub mod Bytes
+pub mod Offsets
 pub mod NamesCases
 pub mod FirstNot
