@@ -143,7 +143,7 @@ module _ (s : List ℕ) (B : (i : ℕ) → getD s i 0 < 256) where
       o
 
 -- and each such tree is found
-abbrev got : Expr → ℕ → Got
+abbrev pub got : Expr → ℕ → Got
 got e n = record { ok = true; tree = e; next = n }
 
 module _ (s : List ℕ) where

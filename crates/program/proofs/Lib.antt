@@ -3,3 +3,5 @@ pub mod Bytes
 pub mod Offsets
 pub mod NamesCases
 pub mod FirstNot
+pub mod Named
+pub mod Passes
