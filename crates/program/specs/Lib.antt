@@ -2,3 +2,4 @@ pub mod Records
 pub mod Trees
 pub mod Says
 pub mod Walk
+pub mod Order

@@ -5,3 +5,5 @@ pub enum Checked {
     Accepted(usize, usize, usize),
     Refused(u8, usize),
 }
+
+mod order;
