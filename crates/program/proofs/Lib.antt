@@ -1,1 +1,2 @@
 pub mod OrderStarred
+pub mod OrderParts

@@ -37,9 +37,9 @@ both-constructs = refl
 
 -- "16 open constructs pass, 17 are 6."
 pub sixteen : orderOf (1 ∷ 2 ∷ (replicate 16 5 ++ (13 ∷ []))) ≡ Misplaced 19
-unfolding orderOf orderFrom next replicate
+unfolding orderOf orderFrom next
 sixteen = refl
 
 pub seventeen : orderOf (1 ∷ 2 ∷ (replicate 17 5 ++ (13 ∷ []))) ≡ Misplaced 18
-unfolding orderOf orderFrom next replicate
+unfolding orderOf orderFrom next
 seventeen = refl
