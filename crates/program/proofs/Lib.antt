@@ -1,2 +1,4 @@
 pub mod OrderStarred
 pub mod OrderParts
+pub mod OrderReads
+pub mod OrderText
