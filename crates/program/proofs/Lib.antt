@@ -2,3 +2,4 @@ pub mod OrderStarred
 pub mod OrderParts
 pub mod OrderReads
 pub mod OrderText
+pub mod OrderSays

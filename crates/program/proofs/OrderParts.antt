@@ -247,7 +247,7 @@ shape-close false e (within v ks bs (some a) (second true x s o ∷ ly)) = refl
 shape-close true e (within v ks bs (some a) (second false x s o ∷ ly)) = refl
 shape-close true e (within v ks bs (some a) (second true x s o ∷ ly)) = shape-within v ks bs o (one (fromS x s a e)) ly
 
-shape-grow : (p : Part) (r : Record) → shape (grow p r) ≡ next (shape p) (kind r)
+pub shape-grow : (p : Part) (r : Record) → shape (grow p r) ≡ next (shape p) (kind r)
 unfolding next kind
 shape-grow p (names v ls) = shape-names v ls p
 shape-grow p begin = shape-begin p

@@ -62,10 +62,10 @@ module _ (v : ℕ) (ls : List ℕ) (bs : List Block) where
 
   plain-reads : (x : Record) (s : Stmt) → ((a : Option Block) (ly : List Layer) → grow (mid a ly) x ≡ mid (add a (one s)) ly) → Reads (x ∷ []) 0 (one s)
   unfolding reads
-  plain-reads x s g = record
-    { fits = λ r a ly h. ap (λ p. reads p r) (g a ly)
-    ; over = λ r a ly h k. absurd (let z : 16 < height ly = omega arith in omega arith)
-    }
+  plain-reads x s g = record {
+    fits = λ r a ly h. ap (λ p. reads p r) (g a ly);
+    over = λ r a ly h k. absurd (let z : 16 < height ly = omega arith in omega arith);
+  }
 
   abbrev written : Bool → Expr → Block → Block → Expr → List Record
   written w e s t e′ = opener w e ∷ (recordsB s ++ (middle w ∷ (recordsB t ++ (closer w e′ ∷ []))))
@@ -86,28 +86,28 @@ module _ (v : ℕ) (ls : List ℕ) (bs : List Block) where
 
     construct-reads : Reads (written w e s t e′) (suc (max (openB s) (openB t))) (one (construct w e s t e′))
     unfolding reads frames add
-    construct-reads = record
-      { fits = λ r a ly h. half r a ly (omega arith)
-          ∙ (rt .fits (closer w e′ ∷ r) none (second w e s a ∷ ly) (omega arith) ∙ ap (λ p. reads p r) (closes w e s t a ly e′))
-      ; over = λ r a ly h k. ⊎-elim
+    construct-reads = record {
+      fits = λ r a ly h. half r a ly (omega arith)
+          ∙ (rt .fits (closer w e′ ∷ r) none (second w e s a ∷ ly) (omega arith) ∙ ap (λ p. reads p r) (closes w e s t a ly e′));
+      over = λ r a ly h k. ⊎-elim
           (λ x. dies (opener w e) ((recordsB s ++ (middle w ∷ (recordsB t ++ (closer w e′ ∷ [])))) ++ r) (mid a ly) (full w e a ly x))
           (λ x. ⊎-elim
-            (λ y. half r a ly y ∙ rt .over (closer w e′ ∷ r) none (second w e s a ∷ ly) (omega arith) (omega arith))
-            (λ y. into r a ly x ∙ rs .over (middle w ∷ (recordsB t ++ (closer w e′ ∷ r))) none (first w e a ∷ ly) (omega arith) (omega arith))
-            (le-or-lt (height ly + suc (openB s)) 16))
-          (le-or-lt 16 (height ly))
-      }
+          (λ y. half r a ly y ∙ rt .over (closer w e′ ∷ r) none (second w e s a ∷ ly) (omega arith) (omega arith))
+          (λ y. into r a ly x ∙ rs .over (middle w ∷ (recordsB t ++ (closer w e′ ∷ r))) none (first w e a ∷ ly) (omega arith) (omega arith))
+          (le-or-lt (height ly + suc (openB s)) 16))
+          (le-or-lt 16 (height ly));
+    }
 
   then-reads : (s : Stmt) (b : Block) → Reads (recordsS s) (openS s) (one s) → Reads (recordsB b) (openB b) b
       → Reads (recordsS s ++ recordsB b) (max (openS s) (openB b)) (_then_ s b)
-  then-reads s b rs rb = record
-    { fits = λ r a ly h. ap (λ x. reads (mid a ly) x) (append-assoc (recordsS s) (recordsB b) r)
-        ∙ (rs .fits (recordsB b ++ r) a ly (omega arith) ∙ (rb .fits r (add a (one s)) ly (omega arith) ∙ ap (λ x. reads (mid x ly) r) (add-add a s b)))
-    ; over = λ r a ly h k. ap (λ x. reads (mid a ly) x) (append-assoc (recordsS s) (recordsB b) r) ∙ ⊎-elim
+  then-reads s b rs rb = record {
+    fits = λ r a ly h. ap (λ x. reads (mid a ly) x) (append-assoc (recordsS s) (recordsB b) r)
+        ∙ (rs .fits (recordsB b ++ r) a ly (omega arith) ∙ (rb .fits r (add a (one s)) ly (omega arith) ∙ ap (λ x. reads (mid x ly) r) (add-add a s b)));
+    over = λ r a ly h k. ap (λ x. reads (mid a ly) x) (append-assoc (recordsS s) (recordsB b) r) ∙ ⊎-elim
         (λ x. rs .fits (recordsB b ++ r) a ly x ∙ rb .over r (add a (one s)) ly h (omega arith))
         (λ x. rs .over (recordsB b ++ r) a ly h x)
-        (le-or-lt (height ly + openS s) 16)
-    }
+        (le-or-lt (height ly + openS s) 16);
+  }
 
   mutual
     unfolding recordsS openS
