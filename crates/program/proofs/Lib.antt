@@ -1,6 +1,11 @@
 -- The laws of program files.
 pub mod Bytes
 pub mod Offsets
+pub mod OrderStarred
+pub mod OrderParts
+pub mod OrderReads
+pub mod OrderText
+pub mod OrderSays
 pub mod NamesCases
 pub mod FirstNot
 pub mod Named

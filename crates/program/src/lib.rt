@@ -7,3 +7,5 @@ pub enum Checked {
     Accepted(usize, usize, usize),
     Refused(u8, usize),
 }
+
+mod order;
