@@ -10,3 +10,8 @@ pub mod NamesCases
 pub mod FirstNot
 pub mod Named
 pub mod Passes
+pub mod Thirteen
+pub mod Sound
+pub mod Complete
+pub mod Sizes
+pub mod Asked

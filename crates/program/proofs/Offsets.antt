@@ -12,7 +12,8 @@ use lib.Seq.{drop-cons}
 use Rattle.program.specs.Records.{Record, names, begin, end, set, if, else, fi, from, loop, until, call, uncall, skip, kind, body, encodeRecord, bytesOf}
 use Rattle.program.specs.Says.{word}
 use Rattle.program.specs.Walk.{stride, kindAt, offsets, offsetsFrom, kindsAt}
-use Rattle.program.proofs.Bytes.{front-short, front-rest, after, room}
+use Rattle.codes.proofs.Rows.{short-back}
+use Rattle.program.proofs.Bytes.{front-rest, after, room}
 
 -- ---- any file: the offsets from a position on
 more : (n m : ℕ) (f : List ℕ) (at : ℕ) → length f ≤ at + n → length f ≤ at + m → offsetsFrom n f at ≡ offsetsFrom m f at
@@ -69,14 +70,14 @@ size-of r = omega arith
 module _ (f : List ℕ) (at : ℕ) (r : Record) (x : List ℕ) (short : length (encodeRecord r) < 2 ^ 16) (D : drop at f ≡ encodeRecord r ++ x) where
   pub word-is : word f at ≡ length (encodeRecord r)
   unfolding encodeRecord
-  word-is = front-short f at (4 + length (body r)) _ (omega (arith, size-of r)) D ∙ sym (size-of r)
+  word-is = short-back f at _ (4 + length (body r)) (omega (arith, size-of r)) D ∙ sym (size-of r)
 
   pub stride-is : stride f at ≡ length (encodeRecord r)
   stride-is = omega (arith, word-is, size-of r)
 
   pub kind-is : kindAt f at ≡ kind r
   unfolding encodeRecord
-  kind-is = front-short f (at + 2) (kind r) _ (omega (arith, kind-small r)) (front-rest f at 2 _ D)
+  kind-is = short-back f (at + 2) _ (kind r) (omega (arith, kind-small r)) (front-rest f at 2 _ D)
 
   pub next-is : drop (at + stride f at) f ≡ x
   next-is = rw stride-is (after f at (encodeRecord r) x D)

@@ -4,3 +4,4 @@ pub mod Says
 pub mod Walk
 pub mod Order
 pub mod Names
+pub mod Reading

@@ -1,5 +1,6 @@
 // Program files: the check that answers every file, and the table of a checked one.
 mod names;
+mod order;
 mod walk;
 
 // What the check answers: the counts of records, procedures and cells, or the number of the refusal and the record at fault.
@@ -8,4 +9,8 @@ pub enum Checked {
     Refused(u8, usize),
 }
 
-mod order;
+// What the walk over the records answers: the counts of records and BEGINs, or the number of the refusal and the record at fault.
+pub enum Walked {
+    Fine(usize, usize),
+    Faulty(u8, usize),
+}
