@@ -10,6 +10,8 @@ pub mod NamesCases
 pub mod FirstNot
 pub mod Named
 pub mod Passes
+pub mod CellSums
+pub mod CheckCases
 pub mod Thirteen
 pub mod Sound
 pub mod Complete

@@ -77,12 +77,12 @@ module _ (f : List ℕ) (rs : List Record) (R : Rows f rs) where
     pub there-is : (v a p : ℕ) → thereAt f (getD (offsets f) j 0) v a p ≡ there v a p (getD rs j skip)
     there-is v a p =
         let D = record-at f rs small (R .bytes) j h in
-        there-at f _ _ v a p (getD rs j skip) (formed-at rs 0 0 j (R .fine) h) (short-is f small _ _ _ D) D
+        there-at f _ _ v a p (getD rs j skip) (formed-at rs 0 0 j (R .fine) h) (short-is f small (getD (offsets f) j 0) _ _ D) D
 
     pub free-is : freeAt f (getD (offsets f) j 0) ≡ free (getD rs j skip)
     free-is =
         let D = record-at f rs small (R .bytes) j h in
-        free-at f _ _ (getD rs j skip) (formed-at rs 0 0 j (R .fine) h) (short-is f small _ _ _ D) D
+        free-at f _ _ (getD rs j skip) (formed-at rs 0 0 j (R .fine) h) (short-is f small (getD (offsets f) j 0) _ _ D) D
 
   -- a test of positions that agrees with a test of records
   module _ (test : ℕ → Bool) (q : Record → Bool) (same : (j : ℕ) → j < length rs → test (getD (offsets f) j 0) ≡ q (getD rs j skip)) where

@@ -5,3 +5,4 @@ pub mod Walk
 pub mod Order
 pub mod Names
 pub mod Reading
+pub mod Check

@@ -1,4 +1,10 @@
 // Program files: the check that answers every file, and the table of a checked one.
+ghost use mathlib.Core.Path.{_≡_};
+ghost use Rattle.program.specs.Check.{cellsOf, afterOwn, afterThere, afterOrder, checkOf};
+use names::First;
+use names::first_not;
+use order::Placed;
+
 mod names;
 mod order;
 mod walk;
@@ -13,4 +19,66 @@ pub enum Checked {
 pub enum Walked {
     Fine(usize, usize),
     Faulty(u8, usize),
+}
+
+// The cells that the first record declares: its scalars and its arrays' lengths.
+fn cells(file: &[u8]) -> usize
+    ensures { λ r. ⌜ r ≡ cellsOf (now (file .entry)) ⌝ }
+{
+    let arrays = codes::short(file, 6);
+    let mut total = codes::short(file, 4);
+    let mut i: usize = 0;
+    while i < arrays {
+        total += codes::short(file, 8 + 2 * i);
+        i += 1;
+    }
+    total
+}
+
+// What is answered once 8 is asked.
+fn after_own(file: &[u8], records: usize, procedures: usize, first: First) -> Checked
+    ensures { λ r. ⌜ r ≡ afterOwn (now (file .entry)) records procedures first ⌝ }
+{
+    match first {
+        First::At(k) => Checked::Refused(8, k),
+        First::Nowhere => Checked::Accepted(records, procedures, cells(file)),
+    }
+}
+
+// What is answered once 7 is asked.
+fn after_there(file: &[u8], records: usize, procedures: usize, first: First) -> Checked
+    ensures { λ r. ⌜ r ≡ afterThere (now (file .entry)) records procedures first ⌝ }
+{
+    match first {
+        First::At(k) => Checked::Refused(7, k),
+        First::Nowhere => {
+            let own = first_not(
+                true,
+                file,
+                codes::short(file, 4),
+                codes::short(file, 6),
+                procedures,
+            );
+            after_own(file, records, procedures, own)
+        }
+    }
+}
+
+// What is answered once 6 is asked.
+fn after_order(file: &[u8], records: usize, procedures: usize, placed: Placed) -> Checked
+    ensures { λ r. ⌜ r ≡ afterOrder (now (file .entry)) records procedures placed ⌝ }
+{
+    match placed {
+        Placed::Misplaced(k) => Checked::Refused(6, k),
+        Placed::InOrder => {
+            let there = first_not(
+                false,
+                file,
+                codes::short(file, 4),
+                codes::short(file, 6),
+                procedures,
+            );
+            after_there(file, records, procedures, there)
+        }
+    }
 }
