@@ -17,3 +17,4 @@ pub mod Sound
 pub mod Complete
 pub mod Sizes
 pub mod Asked
+pub mod Walking
