@@ -12,6 +12,7 @@ pub mod Named
 pub mod Passes
 pub mod CellSums
 pub mod CheckCases
+pub mod CheckSays
 pub mod Thirteen
 pub mod Sound
 pub mod Complete
