@@ -13,6 +13,7 @@ pub mod Passes
 pub mod CellSums
 pub mod CheckCases
 pub mod CheckSays
+pub mod Starred
 pub mod Thirteen
 pub mod Sound
 pub mod Complete
