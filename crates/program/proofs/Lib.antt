@@ -13,6 +13,8 @@ pub mod Passes
 pub mod CellSums
 pub mod CheckCases
 pub mod CheckSays
+pub mod ArrayLoops
+pub mod ArrayTree
 pub mod Starred
 pub mod Thirteen
 pub mod Sound

@@ -6,3 +6,4 @@ pub mod Order
 pub mod Names
 pub mod Reading
 pub mod Check
+pub mod Arrays

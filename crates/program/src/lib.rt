@@ -5,6 +5,7 @@ use names::First;
 use names::first_not;
 use order::Placed;
 
+mod arrays;
 mod names;
 mod order;
 mod walk;
