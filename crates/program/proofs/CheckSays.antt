@@ -14,7 +14,6 @@ use borrow.Author.Tests.{lt-ltb, le-ltb, ltb-true, ltb-false}
 use lib.Dec.{ltb}
 use lib.ListN.{length, getD, drop}
 use Rattle.codes.specs.Codes.{AllBytes}
-use Rattle.codes.proofs.Rows.{short-back}
 use Rattle.program.specs.Records.{Record, names, begin, end, set, if, else, fi, from, loop, until, call, uncall, skip, kind, body, encodeRecord, bytesOf, Formed, FineFrom, begins, there, sum}
 use Rattle.program.specs.Trees.{Stmt, setS, skipS, callS, uncallS, ifS, fromS, Block, one, _then_, Tree, recordsS, recordsB, recordsP, recordsOf, procedures, cells, Ordered}
 use Rattle.program.specs.Says.{word, Rows, All, FirstNot, thereIn, free, Accepts, Says, too-long, in-turn, order, not-there, own-name, accepted}
@@ -31,7 +30,7 @@ use Rattle.program.specs.declared.names.First.{First}
 use Rattle.program.specs.declared.names.First.the-variants.{Nowhere, At}
 use Rattle.program.specs.declared.Checked.{Checked}
 use Rattle.program.specs.declared.Checked.the-variants.{Accepted, Refused}
-use Rattle.program.proofs.Bytes.{front-rest, shorts-back}
+use Rattle.program.proofs.Declared.{Declares, declares}
 use Rattle.program.proofs.Offsets.{kinds-of}
 use Rattle.program.proofs.Walking.{walk-fine, fine-walk, walk-wrong, wrong-walk, rows-unique}
 use Rattle.program.proofs.OrderSays.{order-ordered, ordered-order, order-misplaced, misplaced-order, ordered-unique}
@@ -69,20 +68,6 @@ begins-tree : (t : Tree) → begins (recordsOf t) ≡ length (procedures t)
 unfolding begins recordsOf kind
 begins-tree t = zero-add (begins (recordsP (procedures t))) ∙ begins-p (procedures t)
 
--- ---- what NAMES declares, read from the first record's bytes
-module _ (f : List ℕ) (v : ℕ) (ls : List ℕ) (rest : List ℕ) (D : drop 0 f ≡ encodeRecord (names v ls) ++ rest) (F : Formed (names v ls)) where
-  scalars-read : word f 4 ≡ v
-  unfolding encodeRecord body kind Formed
-  scalars-read = short-back f 4 _ v (F .0) (front-rest f 0 4 _ D)
-
-  arrays-read : word f 6 ≡ length ls
-  unfolding encodeRecord body kind Formed
-  arrays-read = short-back f 6 _ (length ls) (F .1 .0) (front-rest f 0 6 _ D)
-
-  cells-read : cellsOf f ≡ v + sum ls
-  unfolding encodeRecord body kind Formed cellsOf
-  cells-read = rw (scalars-read, arrays-read, shorts-back f ls 8 _ (F .1 .1) (front-rest f 0 8 _ D))
-
 map-kinds : (rs : List Record) → map kind rs ≡ kinds rs
 unfolding kinds
 map-kinds [] = refl
@@ -116,21 +101,17 @@ module _ (f : List ℕ) (B : AllBytes f) (rs : List Record) (R : Rows f rs) wher
     p-is : begins rs ≡ length (procedures t)
     p-is = ap begins (sym (O .records)) ∙ begins-tree t
 
-    head-at : drop 0 f ≡ encodeRecord (names (t .scalars) (t .lengths)) ++ bytesOf (recordsP (procedures t))
-    unfolding bytesOf recordsOf
-    head-at = R .bytes ∙ ap bytesOf (sym (O .records))
-
-    head-formed : Formed (names (t .scalars) (t .lengths))
-    unfolding FineFrom recordsOf
-    head-formed = subst (λ (x : List Record). FineFrom 0 0 x) (sym (O .records)) (R .fine) .0
+    declared : Declares f t
+    declared = declares f rs R t O
 
     cells-are : cellsOf f ≡ cells t
-    cells-are = cells-read f _ _ _ head-at head-formed
+    unfolding cellsOf
+    cells-are = rw (declared .scalars-are, declared .arrays-are, declared .lengths-are)
 
     same-there : (j : ℕ) → j < length rs → asks false f (begins rs) (getD (offsets f) j 0) ≡ thereIn t (getD rs j skip)
     same-there j h =
         there-is f rs R j h (word f 4) (word f 6) (begins rs)
-        ∙ rw (scalars-read f _ _ _ head-at head-formed, arrays-read f _ _ _ head-at head-formed, p-is)
+        ∙ rw (declared .scalars-are, declared .arrays-are, p-is)
 
     same-free : (j : ℕ) → j < length rs → asks true f (begins rs) (getD (offsets f) j 0) ≡ free (getD rs j skip)
     same-free j h = free-is f rs R j h

@@ -12,6 +12,7 @@ pub mod Named
 pub mod Passes
 pub mod CellSums
 pub mod CheckCases
+pub mod Declared
 pub mod CheckSays
 pub mod ArrayLoops
 pub mod ArrayTree
