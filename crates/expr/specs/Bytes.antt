@@ -1,14 +1,13 @@
--- What stands at a position of the bytes. Assumes nothing: these are definitions.
-use Prim.Native.Nat.{ℕ, zero, suc, _+_, _*_, _-_}
+-- What stands at a position of the bytes: the format, and the reader that answers for any bytes.
+-- Assumes nothing: these are definitions.
+use Prim.Native.Nat.{ℕ, zero, suc, _+_, _-_}
 use mathlib.Core.Path.{_≡_}
-use mathlib.Core.List.{List, [], _∷_, _++_}
-use mathlib.Core.Bool.{Bool, true, false, cond, _&&_}
+use mathlib.Core.List.{List, _++_}
+use mathlib.Core.Bool.{Bool, true, false, _&&_}
 use lib.ListN.{length, getD, drop}
 use lib.Dec.{ltb, leb, eqb}
 use lib.IntN.{pos}
-use mir.Syntax.{w32}
-use mir.Val.{toZ}
-use Rattle.codes.specs.Codes.{word16, word32}
+use Rattle.codes.specs.Codes.{word16, cellAt}
 use Rattle.expr.specs.Tree.{Expr, con, var, read, bin, encode}
 
 -- THE FORMAT: the bytes of e stand in s from at up to n
@@ -25,7 +24,7 @@ abbrev pub nothing : ℕ → Got
 nothing at = record { ok = false; tree = con (pos 0); next = at }
 
 abbrev pub gotCon : List ℕ → ℕ → Got
-gotCon s at = record { ok = leb (at + 5) (length s); tree = con (toZ w32 (word32 s (at + 1))); next = at + 5 }
+gotCon s at = record { ok = leb (at + 5) (length s); tree = con (cellAt s (at + 1)); next = at + 5 }
 
 abbrev pub gotVar : List ℕ → ℕ → Got
 gotVar s at = record { ok = leb (at + 3) (length s); tree = var (word16 s (at + 1)); next = at + 3 }
@@ -36,15 +35,14 @@ gotRead a i = record { ok = i .ok; tree = read a (i .tree); next = i .next }
 abbrev pub gotBin : ℕ → Got → Got → Got
 gotBin o l r = record { ok = ltb o 16 && (l .ok && r .ok); tree = bin o (l .tree) (r .tree); next = r .next }
 
--- by the first byte; a byte over 3 is read as 3, and is not ok
+abbrev pub gotIf : Bool → Got → Got
+gotIf b g = record { ok = b && g .ok; tree = g .tree; next = g .next }
+
 abbrev pub pickGot : Bool → Got → Got → Got
 pickGot true a b = a
 pickGot false a b = b
 
-abbrev pub gotIf : Bool → Got → Got
-gotIf b g = record { ok = b && g .ok; tree = g .tree; next = g .next }
-
--- one layer of a tree, over what is read at other positions
+-- one layer of a tree, by its first byte, over what `sub` reads further on; a byte over 3 is read as 3, and is not ok
 unfoldable pub layer : (ℕ → Got) → List ℕ → ℕ → Got
 layer sub s at =
     pickGot (ltb at (length s))

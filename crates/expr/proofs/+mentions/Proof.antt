@@ -4,7 +4,7 @@ use Prim.Native.Nat.{ℕ, _<_, _-_}
 use native.Mathlib.Omega.{arith}
 use borrow.Author.Needs.{needs}
 use lib.ListN.{length}
-use Rattle.expr.proofs.Names.{names, after}
+use Rattle.expr.proofs.Names.{names, seen-after}
 use borrow.Fn.Kinds.{In}
 use borrow.Fn.PlainCycle.{Measures, is, falls, and}
 use Rattle.expr.proofs.mentions.Reads as mentions
@@ -53,6 +53,6 @@ pub +mentions-spec : {M : Type 1} → statement M
     (λ c. search names)
     (λ c. omega arith)
     (λ c κs. omega arith)
-    (λ c κs. omega (arith, after _ _ _ _ (c .mentions2 .ensures)))
+    (λ c κs. omega (arith, seen-after _ _ _ _ (c .mentions2 .ensures)))
     (λ c κs. tt)
     (λ c. search names)

@@ -1,8 +1,10 @@
+-- The proof of the cycle of calls {names_known}. The measure is the bytes that are left. The answers are the cases of `Knowns`.
+-- Assumes nothing.
 use borrow.Author.Needs.{needs}
-use Rattle.expr.proofs.Knowns.{knowns, after}
+use Rattle.expr.proofs.Knowns.{knowns, known-after}
 use Prim.Native.Nat.{ℕ, _<_, _-_}
-use lib.ListN.{length}
 use native.Mathlib.Omega.{arith}
+use lib.ListN.{length}
 use borrow.Fn.Kinds.{In}
 use borrow.Fn.PlainCycle.{Measures, is, falls, and}
 use Rattle.expr.proofs.names_known.Reads as names-known
@@ -10,8 +12,7 @@ use Rattle.expr.proofs.names_known.Kinds as names-known-kinds
 use Rattle.expr.proofs.+names_known.Lts-names_known as names-known-lts
 use Rattle.codes.proofs.byte.Reads as byte-reads
 use Rattle.codes.proofs.short.Reads as short-reads
-use Rattle.expr.proofs.below.Reads as below-reads
-use Rattle.expr.proofs.both.Reads as both-reads
+use Rattle.expr.proofs.each.Reads as each-reads
 use Rattle.expr.proofs.+names_known.{statement}
 use Rattle.expr.proofs.+names_known.Tie.{close}
 
@@ -27,7 +28,7 @@ names-known-below t =
     and 1 names-known-kinds.ps (falls 1 names-known-kinds.ps _<_ μ-names-known t) names-known.Pre
 
 pub +names-known-spec : {M : Type 1} → statement M
-+names-known-spec = close μ-names-known λ t. names-known-lts.spec (byte-reads.Asked, byte-reads.Learnt, short-reads.Asked, short-reads.Learnt, below-reads.Asked, below-reads.Learnt, names-known-below t, names-known.Post, both-reads.Asked, both-reads.Learnt)
++names-known-spec = close μ-names-known λ t. names-known-lts.spec (byte-reads.Asked, byte-reads.Learnt, short-reads.Asked, short-reads.Learnt, names-known-below t, names-known.Post, each-reads.Asked, each-reads.Learnt)
     (names-known-at t)
     names-known.Post
     (λ c. search knowns)
@@ -36,7 +37,6 @@ pub +names-known-spec : {M : Type 1} → statement M
     (λ c. search knowns)
     (λ c. search needs)
     (λ c κs. search needs)
-    (λ c κs. search needs)
     (λ c. search needs)
     (λ c. search knowns)
     (λ c. search needs)
@@ -44,10 +44,9 @@ pub +names-known-spec : {M : Type 1} → statement M
     (λ c. search needs)
     (λ c κs. search needs)
     (λ c κs. search needs)
-    (λ c κs. search needs)
     (λ c. search knowns)
     (λ c. search needs)
     (λ c κs. search needs)
-    (λ c κs. omega (arith, after _ _ _ _ _ (c .names-known2 .ensures)))
+    (λ c κs. omega (arith, known-after _ _ _ _ _ (c .names-known2 .ensures)))
     (λ c κs. search needs)
     (λ c. search knowns)
