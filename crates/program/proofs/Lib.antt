@@ -23,3 +23,4 @@ pub mod Complete
 pub mod Sizes
 pub mod Asked
 pub mod Walking
+pub mod Cases

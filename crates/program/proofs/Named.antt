@@ -13,7 +13,8 @@ use Rattle.expr.proofs.Format.{got, whole-of}
 use Rattle.program.specs.Records.{Target, cell, entry, Record, names, begin, end, set, if, else, fi, from, loop, until, call, uncall, skip, kind, body, encodeRecord, Plain, PlainTarget, Formed, there, thereTarget, own, ownTarget}
 use Rattle.program.specs.Says.{word, free}
 use Rattle.program.specs.Walk.{kindAt}
-use Rattle.program.specs.Names.{hasTest, isCall, exprAt, past, thereScalar, thereArray, thereCall, thereAt, freeScalar, freeArray, freeAt}
+use Rattle.program.specs.Reading.{tests, calls}
+use Rattle.program.specs.Names.{exprAt, past, thereScalar, thereArray, thereCall, thereAt, freeScalar, freeArray, freeAt}
 use Rattle.program.proofs.Bytes.{front-rest, after}
 use Rattle.program.proofs.Offsets.{kind-is}
 
@@ -21,7 +22,7 @@ module _ (f : List ℕ) where
   -- where a tree's bytes stand, that tree is read
   tree-at : (at : ℕ) (e : Expr) (x : List ℕ) → Plain e → drop at f ≡ encode e ++ x → whole f at ≡ got e (at + length (encode e))
   unfolding Stands
-  tree-at at e x p D = whole-of f at 16 e (at + length (encode e)) (p .0) (p .1) (x, D, refl)
+  tree-at at e x p D = whole-of f at e (at + length (encode e)) (p .0) (x, D, refl)
 
   tree-is : (at : ℕ) (e : Expr) (x : List ℕ) → Plain e → drop at f ≡ encode e ++ x → exprAt f at ≡ e
   tree-is at e x p D = ap (λ (g : Got). g .tree) (tree-at at e x p D)
@@ -35,16 +36,16 @@ module _ (f : List ℕ) where
     free-none x = rw (K, x)
 
     module _ (v a p : ℕ) where
-      there-none : eqb k 4 ≡ false → hasTest k ≡ false → isCall k ≡ false → thereAt f at v a p ≡ true
+      there-none : eqb k 4 ≡ false → tests k ≡ false → calls k ≡ false → thereAt f at v a p ≡ true
       unfolding thereAt
       there-none x y z = rw (K, x, y, z)
 
-      there-test : eqb k 4 ≡ false → hasTest k ≡ true → (e : Expr) (x : List ℕ) → Plain e → drop (at + 4) f ≡ encode e ++ x
+      there-test : eqb k 4 ≡ false → tests k ≡ true → (e : Expr) (x : List ℕ) → Plain e → drop (at + 4) f ≡ encode e ++ x
           → thereAt f at v a p ≡ known v a e
       unfolding thereAt
       there-test n y e x pe D = rw (K, n, y, tree-is (at + 4) e x pe D)
 
-      there-call : eqb k 4 ≡ false → hasTest k ≡ false → isCall k ≡ true → (q : ℕ) → word f (at + 4) ≡ q
+      there-call : eqb k 4 ≡ false → tests k ≡ false → calls k ≡ true → (q : ℕ) → word f (at + 4) ≡ q
           → thereAt f at v a p ≡ (ltb 0 q && ltb q p)
       unfolding thereAt thereCall
       there-call x y z q e = rw (K, x, y, z, e)

@@ -14,26 +14,8 @@ use Rattle.expr.specs.declared.Known.{Known}
 use Rattle.expr.specs.declared.Seen.{Seen}
 use Rattle.program.specs.Says.{word}
 use Rattle.program.specs.Walk.{kindAt}
-use Rattle.program.specs.Names.{hasTest, isCall, exprAt, past, thereScalar, thereArray, thereSet, thereCall, thereAt, freeScalar, freeArray, freeAt, passes}
-
-module _ (k : ℕ) where
-  pub test-5 : k ≡ 5 → true ≡ hasTest k
-  test-5 e = rw e
-
-  pub test-7 : k ≡ 7 → true ≡ hasTest k
-  test-7 e = rw e
-
-  pub test-8 : k ≡ 8 → true ≡ hasTest k
-  test-8 e = rw e
-
-  pub test-10 : (k ≡ 5 → ⊥) → (k ≡ 7 → ⊥) → (k ≡ 8 → ⊥) → eqb k 10 ≡ hasTest k
-  test-10 a b c = rw (ne-eqb k 5 a, ne-eqb k 7 b, ne-eqb k 8 c)
-
-  pub call-11 : k ≡ 11 → true ≡ isCall k
-  call-11 e = rw e
-
-  pub call-12 : (k ≡ 11 → ⊥) → eqb k 12 ≡ isCall k
-  call-12 a = rw (ne-eqb k 11 a)
+use Rattle.program.specs.Reading.{tests, calls}
+use Rattle.program.specs.Names.{exprAt, past, thereScalar, thereArray, thereSet, thereCall, thereAt, freeScalar, freeArray, freeAt, passes}
 
 module _ (f : List ℕ) (at v a : ℕ) where
   pub scalar-out : (x : ℕ) → v ≤ x → x ≡ word f (at + 6) → false ≡ thereScalar f at v a
@@ -73,12 +55,12 @@ module _ (f : List ℕ) (at v a : ℕ) where
     unfolding thereAt
     at-set r h q = rw (← kk, h) q
 
-    module _ (n : k ≡ 4 → ⊥) (t : Bool) (tt : t ≡ hasTest k) where
+    module _ (n : k ≡ 4 → ⊥) (t : Bool) (tt : t ≡ tests k) where
       pub at-test : (r : Bool) → t ≡ true → r ≡ known v a (exprAt f (at + 4)) → r ≡ thereAt f at v a p
       unfolding thereAt
       at-test r h q = rw (← kk, ne-eqb k 4 n, ← tt, h) q
 
-      module _ (no : t ≡ false) (c : Bool) (cc : c ≡ isCall k) where
+      module _ (no : t ≡ false) (c : Bool) (cc : c ≡ calls k) where
         pub at-call : (r : Bool) → c ≡ true → r ≡ thereCall f at p → r ≡ thereAt f at v a p
         unfolding thereAt
         at-call r h q = rw (← kk, ne-eqb k 4 n, ← tt, no, ← cc, h) q
@@ -139,4 +121,4 @@ pub test-known : (f : List ℕ) (at v a : ℕ) (r : Known) → r ≡ knownOf v a
 test-known f at v a r e = rw e
 
 pub ruleset cases =
-    (test-5, test-7, test-8, test-10, call-11, call-12, scalar-out, scalar-in, array-out, array-in, array-index, set-scalar, set-array, test-known, at-set, at-test, at-call, at-other, call-zero, call-in, free-scalar, free-index, free-array, free-set-scalar, free-set-array, free-other, pass-own, pass-there)
+    (scalar-out, scalar-in, array-out, array-in, array-index, set-scalar, set-array, test-known, at-set, at-test, at-call, at-other, call-zero, call-in, free-scalar, free-index, free-array, free-set-scalar, free-set-array, free-other, pass-own, pass-there)

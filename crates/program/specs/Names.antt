@@ -8,15 +8,9 @@ use Rattle.expr.specs.Tree.{Expr, known, occurs, scalar, array}
 use Rattle.expr.specs.Bytes.{whole}
 use Rattle.program.specs.Says.{word}
 use Rattle.program.specs.Walk.{kindAt}
+use Rattle.program.specs.Reading.{tests, calls}
 use Rattle.program.specs.declared.names.First.{First}
 use Rattle.program.specs.declared.names.First.the-variants.{Nowhere, At}
-
--- IF, FI, FROM and UNTIL have one expression as their body.
-abbrev pub hasTest : ℕ → Bool
-hasTest k = eqb k 5 || (eqb k 7 || (eqb k 8 || eqb k 10))
-
-abbrev pub isCall : ℕ → Bool
-isCall k = eqb k 11 || eqb k 12
 
 -- the expression at a position, and where it ends
 abbrev pub exprAt : List ℕ → ℕ → Expr
@@ -41,8 +35,8 @@ thereCall f at p = ltb 0 (word f (at + 4)) && ltb (word f (at + 4)) p
 unfoldable pub thereAt : List ℕ → ℕ → ℕ → ℕ → ℕ → Bool
 thereAt f at v a p =
     cond (eqb (kindAt f at) 4) (thereSet f at v a)
-    (cond (hasTest (kindAt f at)) (known v a (exprAt f (at + 4)))
-    (cond (isCall (kindAt f at)) (thereCall f at p) true))
+    (cond (tests (kindAt f at)) (known v a (exprAt f (at + 4)))
+    (cond (calls (kindAt f at)) (thereCall f at p) true))
 
 -- 8, "the assigned scalar or array occurs in the SET's own expressions"
 unfoldable pub freeScalar : List ℕ → ℕ → Bool

@@ -1,6 +1,6 @@
 // Program files: the check that answers every file, and the table of a checked one.
 ghost use mathlib.Core.Path.{_≡_};
-ghost use Rattle.program.specs.Check.{cellsOf, afterOwn, afterThere, afterOrder, checkOf};
+ghost use Rattle.program.specs.Check.{cellsOf, afterOwn, afterThere, afterOrder, afterWalk, checkOf};
 use names::First;
 use names::first_not;
 use order::Placed;
@@ -8,6 +8,7 @@ use order::Placed;
 mod arrays;
 mod names;
 mod order;
+mod reading;
 mod walk;
 
 // What the check answers: the counts of records, procedures and cells, or the number of the refusal and the record at fault.
@@ -82,4 +83,24 @@ fn after_order(file: &[u8], records: usize, procedures: usize, placed: Placed) -
             after_there(file, records, procedures, there)
         }
     }
+}
+
+// What is answered once each record was asked 2, 3, 4 and 5 in turn.
+fn after_walk(file: &[u8], walked: Walked) -> Checked
+    ensures { λ r. ⌜ r ≡ afterWalk (now (file .entry)) walked ⌝ }
+{
+    match walked {
+        Walked::Faulty(number, k) => Checked::Refused(number, k),
+        Walked::Fine(records, procedures) => after_order(file, records, procedures, order::order(file)),
+    }
+}
+
+// The document's answer for any file.
+pub fn check(file: &[u8]) -> Checked
+    ensures { λ r. ⌜ r ≡ checkOf (now (file .entry)) ⌝ }
+{
+    if 32768 < file.len() {
+        return Checked::Refused(1, 0);
+    }
+    after_walk(file, reading::walk(file))
 }

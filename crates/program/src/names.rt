@@ -4,7 +4,8 @@ ghost use Prim.Native.Nat.{_+_, _<_};
 ghost use lib.ListN.{length};
 ghost use Rattle.expr.specs.Tree.{known};
 ghost use Rattle.program.specs.Walk.{offsets};
-ghost use Rattle.program.specs.Names.{hasTest, isCall, exprAt, thereScalar, thereArray, thereSet, thereCall, thereAt, freeScalar, freeArray, freeAt, passes, firstNot};
+ghost use Rattle.program.specs.Names.{exprAt, thereScalar, thereArray, thereSet, thereCall, thereAt, freeScalar, freeArray, freeAt, passes, firstNot};
+use crate::reading::{calls, tests};
 use crate::walk::kind_at;
 use crate::walk::stride;
 
@@ -12,30 +13,6 @@ use crate::walk::stride;
 pub enum First {
     Nowhere,
     At(usize),
-}
-
-fn has_test(k: usize) -> bool
-    ensures { λ r. ⌜ r ≡ hasTest k ⌝ }
-{
-    if k == 5 {
-        return true;
-    }
-    if k == 7 {
-        return true;
-    }
-    if k == 8 {
-        return true;
-    }
-    k == 10
-}
-
-fn is_call(k: usize) -> bool
-    ensures { λ r. ⌜ r ≡ isCall k ⌝ }
-{
-    if k == 11 {
-        return true;
-    }
-    k == 12
 }
 
 fn there_scalar(file: &[u8], at: usize, v: usize, a: usize) -> bool
@@ -102,10 +79,10 @@ fn there(file: &[u8], at: usize, v: usize, a: usize, p: usize) -> bool
     if k == 4 {
         return there_set(file, at, v, a);
     }
-    if has_test(k) {
+    if tests(k) {
         return there_test(file, at, v, a);
     }
-    if is_call(k) {
+    if calls(k) {
         return there_call(file, at, p);
     }
     true

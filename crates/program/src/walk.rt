@@ -1,20 +1,23 @@
-// STAND-IN. The walk over a file's records.
+// The walk over a file's records that every pass makes: a record's own length and its kind, at any position.
 ghost use mathlib.Core.Path.{_≡_};
-ghost use Prim.Native.Nat.{_+_, _<_, _≤_};
-ghost use lib.ListN.{length};
+ghost use Prim.Native.Nat.{_^_, _<_};
 ghost use Rattle.program.specs.Walk.{stride, kindAt};
 
-// A record's own length; 4 where it says less.
+// How far the next record is from the one at `at`: its length, 4 where it says less.
 pub fn stride(file: &[u8], at: usize) -> usize
-    ensures { λ r. ⌜ (r ≡ stride (now (file .entry)) at) × ((4 ≤ r) × (r < 65536)) ⌝ }
+    ensures { λ r. ⌜ (r ≡ stride (now (file .entry)) at) × (r < 2 ^ 16) ⌝ }
 {
     let n = codes::short(file, at);
     if n < 4 { 4 } else { n }
 }
 
+// The kind of the record at `at`, 0 past the end.
 pub fn kind_at(file: &[u8], at: usize) -> usize
-    requires { ⌜ at < length (now file) ⌝ }
-    ensures { λ r. ⌜ r ≡ kindAt (now (file .entry)) at ⌝ }
+    ensures { λ r. ⌜ (r ≡ kindAt (now (file .entry)) at) × (r < 2 ^ 16) ⌝ }
 {
-    codes::short(file, at + 2)
+    if at < file.len() {
+        codes::short(file, at + 2)
+    } else {
+        0
+    }
 }
