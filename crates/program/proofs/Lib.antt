@@ -3,3 +3,4 @@ pub mod OrderParts
 pub mod OrderReads
 pub mod OrderText
 pub mod OrderSays
+pub mod WalkCases

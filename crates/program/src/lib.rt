@@ -7,3 +7,4 @@ pub enum Checked {
 }
 
 mod order;
+mod walk;
