@@ -4,3 +4,4 @@ pub mod OrderReads
 pub mod OrderText
 pub mod OrderSays
 pub mod WalkCases
+pub mod OrderCases

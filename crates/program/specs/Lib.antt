@@ -3,3 +3,4 @@ pub mod Trees
 pub mod Says
 pub mod Walk
 pub mod Order
+pub mod Stack
