@@ -52,7 +52,6 @@ fn begun(o: Open) -> Open
 
 // END comes.
 fn ended(o: Open) -> Open
-    requires { ⌜ o .count ≤ 16 ⌝ }
     ensures { λ r. ⌜ Keeps r (ended (stateOf o)) ⌝ }
 {
     if o.phase != 4 {
@@ -147,13 +146,16 @@ fn after(o: Open, kind: usize) -> Open
         1 => named(o),
         2 => begun(o),
         3 => ended(o),
+        4 => passed(o),
         5 => opened(o, 0),
         6 => turned(o, 0),
         7 => closed(o, 1),
         8 => opened(o, 2),
         9 => turned(o, 2),
         10 => closed(o, 3),
-        4 | 11 | 12 | 13 => passed(o),
+        11 => passed(o),
+        12 => passed(o),
+        13 => passed(o),
         _ => bare(o, 5),
     }
 }
