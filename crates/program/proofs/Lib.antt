@@ -5,3 +5,4 @@ pub mod OrderText
 pub mod OrderSays
 pub mod WalkCases
 pub mod OrderCases
+pub mod OrderWalk

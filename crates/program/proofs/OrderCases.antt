@@ -135,8 +135,32 @@ module _ (o : Open) where
     turned-yes p h b q = rw (p, stack-top (o .kinds) (o .count) (omega arith), eq-eqb (getD (o .kinds) (o .count - 1) 0) f q)
         (record { state = ap (at 3) (stack-turn (o .kinds) (o .count) (f + 1) (omega arith) (omega arith) ∙ ap (λ x. x ∷ stack (o .kinds) (o .count - 1)) (add-one f)); room = b })
 
-pub ruleset keeping = (keeps-bare, named-yes, named-no, begun-first, begun-next, begun-no, ended-out, ended-open, ended-yes, passed-low, passed-high, passed-yes,
-    opened-low, opened-high, opened-full, opened-yes, turned-out, turned-none, turned-other, turned-yes, closed-out, closed-none, closed-other, closed-yes)
+pub ruleset keeping = (
+  keeps-bare,
+  named-yes,
+  named-no,
+  begun-first,
+  begun-next,
+  begun-no,
+  ended-out,
+  ended-open,
+  ended-yes,
+  passed-low,
+  passed-high,
+  passed-yes,
+  opened-low,
+  opened-high,
+  opened-full,
+  opened-yes,
+  turned-out,
+  turned-none,
+  turned-other,
+  turned-yes,
+  closed-out,
+  closed-none,
+  closed-other,
+  closed-yes,
+)
 
 -- ---- Each kind has its function.
 module _ (r : Open) (s : State) (k : ℕ) where

@@ -5,6 +5,7 @@ ghost use mathlib.Core.List.{[]};
 ghost use Rattle.program.specs.Order.{at, named, begun, ended, passed, opened, turned, closed, next, orderOf};
 ghost use Rattle.program.specs.Stack.{stateOf, Keeps};
 ghost use Rattle.program.specs.Walk.{offsets, kindsAt};
+use crate::walk;
 
 // In a valid order, or the first record after which none is, or the number of records where they stop too soon.
 pub enum Placed {
@@ -24,7 +25,11 @@ fn bare(o: Open, phase: u8) -> Open
     ensures { λ r. ⌜ Keeps r (at phase []) ⌝ }
 {
     let kinds = o.kinds;
-    Open { kinds: kinds, count: 0, phase: phase }
+    Open {
+        kinds: kinds,
+        count: 0,
+        phase: phase,
+    }
 }
 
 // NAMES comes.
@@ -75,7 +80,11 @@ fn passed(o: Open) -> Open
         return bare(o, 5);
     }
     let kinds = o.kinds;
-    Open { kinds: kinds, count: o.count, phase: 4 }
+    Open {
+        kinds: kinds,
+        count: o.count,
+        phase: 4,
+    }
 }
 
 // IF or FROM comes, and opens this frame.
@@ -95,7 +104,11 @@ fn opened(o: Open, frame: u8) -> Open
     }
     let mut kinds = o.kinds;
     kinds[count] = frame;
-    Open { kinds: kinds, count: count + 1, phase: 3 }
+    Open {
+        kinds: kinds,
+        count: count + 1,
+        phase: 3,
+    }
 }
 
 // ELSE or LOOP comes, and turns this frame into the one above it.
@@ -115,7 +128,11 @@ fn turned(o: Open, frame: u8) -> Open
         return bare(o, 5);
     }
     kinds[count - 1] = frame + 1;
-    Open { kinds: kinds, count: count, phase: 3 }
+    Open {
+        kinds: kinds,
+        count: count,
+        phase: 3,
+    }
 }
 
 // FI or UNTIL comes, and closes this frame.
@@ -134,7 +151,11 @@ fn closed(o: Open, frame: u8) -> Open
     if kinds[count - 1] != frame {
         return bare(o, 5);
     }
-    Open { kinds: kinds, count: count - 1, phase: 4 }
+    Open {
+        kinds: kinds,
+        count: count - 1,
+        phase: 4,
+    }
 }
 
 // A record of this kind comes.
@@ -158,4 +179,30 @@ fn after(o: Open, kind: usize) -> Open
         13 => passed(o),
         _ => bare(o, 5),
     }
+}
+
+// The order of a file's records, whatever the bytes.
+pub fn order(file: &[u8]) -> Placed
+    ensures { λ r. ⌜ r ≡ orderOf (kindsAt (now (file .entry)) (offsets (now (file .entry)))) ⌝ }
+{
+    let kinds: [u8; 16] = [0; 16];
+    let mut o = Open {
+        kinds: kinds,
+        count: 0,
+        phase: 0,
+    };
+    let mut n: usize = 0;
+    let mut at: usize = 0;
+    while at < file.len() {
+        o = after(o, walk::kind_at(file, at));
+        if o.phase == 5 {
+            return Placed::Misplaced(n);
+        }
+        n += 1;
+        at = walk::next_at(file, at);
+    }
+    if o.phase == 2 {
+        return Placed::InOrder;
+    }
+    Placed::Misplaced(n)
 }

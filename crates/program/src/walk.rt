@@ -1,7 +1,7 @@
 // The walk over a file's records: how long each is and of which kind, whatever the bytes.
-ghost use Prim.Native.Nat.{_<_};
+ghost use Prim.Native.Nat.{_+_, _<_, min};
 ghost use mathlib.Core.Path.{_≡_};
-ghost use lib.ListN.{getD};
+ghost use lib.ListN.{length, getD};
 ghost use Rattle.program.specs.Says.{word};
 ghost use Rattle.program.specs.Walk.{stride, kindAt};
 
@@ -49,4 +49,18 @@ pub fn kind_at(file: &[u8], at: usize) -> usize
         return 0;
     }
     word_at(file, at + 2)
+}
+
+// Where the next record starts, or the end where there is none: no sum can wrap.
+pub fn next_at(file: &[u8], at: usize) -> usize
+    ensures { λ r. ⌜ r ≡ min (length (now (file .entry))) (at + stride (now (file .entry)) at) ⌝ }
+{
+    if at >= file.len() {
+        return file.len();
+    }
+    let step = stride(file, at);
+    if file.len() - at <= step {
+        return file.len();
+    }
+    at + step
 }
