@@ -24,3 +24,5 @@ pub mod Sizes
 pub mod Asked
 pub mod Walking
 pub mod Cases
+pub mod OrderCases
+pub mod OrderWalk

@@ -7,3 +7,4 @@ pub mod Names
 pub mod Reading
 pub mod Check
 pub mod Arrays
+pub mod Stack

@@ -91,7 +91,12 @@ fn after_walk(file: &[u8], walked: Walked) -> Checked
 {
     match walked {
         Walked::Faulty(number, k) => Checked::Refused(number, k),
-        Walked::Fine(records, procedures) => after_order(file, records, procedures, order::order(file)),
+        Walked::Fine(records, procedures) => after_order(
+            file,
+            records,
+            procedures,
+            order::order(file),
+        ),
     }
 }
 

@@ -5,7 +5,8 @@ ghost use lib.ListN.{length};
 ghost use Rattle.expr.specs.Tree.{known};
 ghost use Rattle.program.specs.Walk.{offsets};
 ghost use Rattle.program.specs.Names.{exprAt, thereScalar, thereArray, thereSet, thereCall, thereAt, freeScalar, freeArray, freeAt, passes, firstNot};
-use crate::reading::{calls, tests};
+use crate::reading::calls;
+use crate::reading::tests;
 use crate::walk::kind_at;
 use crate::walk::stride;
 
