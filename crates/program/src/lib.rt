@@ -54,13 +54,9 @@ fn after_there(file: &[u8], records: usize, procedures: usize, first: First) -> 
     match first {
         First::At(k) => Checked::Refused(7, k),
         First::Nowhere => {
-            let own = first_not(
-                true,
-                file,
-                codes::short(file, 4),
-                codes::short(file, 6),
-                procedures,
-            );
+            let scalars = codes::short(file, 4);
+            let arrays = codes::short(file, 6);
+            let own = first_not(true, file, scalars, arrays, procedures);
             after_own(file, records, procedures, own)
         }
     }
@@ -73,13 +69,9 @@ fn after_order(file: &[u8], records: usize, procedures: usize, placed: Placed) -
     match placed {
         Placed::Misplaced(k) => Checked::Refused(6, k),
         Placed::InOrder => {
-            let there = first_not(
-                false,
-                file,
-                codes::short(file, 4),
-                codes::short(file, 6),
-                procedures,
-            );
+            let scalars = codes::short(file, 4);
+            let arrays = codes::short(file, 6);
+            let there = first_not(false, file, scalars, arrays, procedures);
             after_there(file, records, procedures, there)
         }
     }
