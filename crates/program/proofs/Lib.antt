@@ -1,6 +1,22 @@
 -- The laws of program files.
 pub mod Bytes
 pub mod Offsets
+pub mod OrderStarred
+pub mod OrderParts
+pub mod OrderReads
+pub mod OrderText
+pub mod OrderSays
+pub mod NamesCases
+pub mod FirstNot
+pub mod Named
+pub mod Passes
+pub mod CellSums
+pub mod CheckCases
+pub mod Declared
+pub mod CheckSays
+pub mod ArrayLoops
+pub mod ArrayTree
+pub mod Starred
 pub mod Thirteen
 pub mod Sound
 pub mod Complete
@@ -11,3 +27,5 @@ pub mod Cases
 pub mod Records
 pub mod Turns
 pub mod Determined
+pub mod OrderCases
+pub mod OrderWalk

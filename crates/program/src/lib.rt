@@ -1,7 +1,15 @@
 // Program files: the check that answers every file, and the table of a checked one.
+ghost use mathlib.Core.Path.{_≡_};
+ghost use Rattle.program.specs.Check.{cellsOf, afterOwn, afterThere, afterOrder, afterWalk, checkOf};
+use names::First;
+use names::first_not;
+use order::Placed;
 
-pub mod reading;
-pub mod walk;
+mod arrays;
+mod names;
+mod order;
+mod reading;
+mod walk;
 
 // What the check answers: the counts of records, procedures and cells, or the number of the refusal and the record at fault.
 pub enum Checked {
@@ -13,4 +21,83 @@ pub enum Checked {
 pub enum Walked {
     Fine(usize, usize),
     Faulty(u8, usize),
+}
+
+// The cells that the first record declares: its scalars and its arrays' lengths.
+fn cells(file: &[u8]) -> usize
+    ensures { λ r. ⌜ r ≡ cellsOf (now (file .entry)) ⌝ }
+{
+    let arrays = codes::short(file, 6);
+    let mut total = codes::short(file, 4);
+    let mut i: usize = 0;
+    while i < arrays {
+        total += codes::short(file, 8 + 2 * i);
+        i += 1;
+    }
+    total
+}
+
+// What is answered once 8 is asked.
+fn after_own(file: &[u8], records: usize, procedures: usize, first: First) -> Checked
+    ensures { λ r. ⌜ r ≡ afterOwn (now (file .entry)) records procedures first ⌝ }
+{
+    match first {
+        First::At(k) => Checked::Refused(8, k),
+        First::Nowhere => Checked::Accepted(records, procedures, cells(file)),
+    }
+}
+
+// What is answered once 7 is asked.
+fn after_there(file: &[u8], records: usize, procedures: usize, first: First) -> Checked
+    ensures { λ r. ⌜ r ≡ afterThere (now (file .entry)) records procedures first ⌝ }
+{
+    match first {
+        First::At(k) => Checked::Refused(7, k),
+        First::Nowhere => {
+            let scalars = codes::short(file, 4);
+            let arrays = codes::short(file, 6);
+            let own = first_not(true, file, scalars, arrays, procedures);
+            after_own(file, records, procedures, own)
+        }
+    }
+}
+
+// What is answered once 6 is asked.
+fn after_order(file: &[u8], records: usize, procedures: usize, placed: Placed) -> Checked
+    ensures { λ r. ⌜ r ≡ afterOrder (now (file .entry)) records procedures placed ⌝ }
+{
+    match placed {
+        Placed::Misplaced(k) => Checked::Refused(6, k),
+        Placed::InOrder => {
+            let scalars = codes::short(file, 4);
+            let arrays = codes::short(file, 6);
+            let there = first_not(false, file, scalars, arrays, procedures);
+            after_there(file, records, procedures, there)
+        }
+    }
+}
+
+// What is answered once each record was asked 2, 3, 4 and 5 in turn.
+fn after_walk(file: &[u8], walked: Walked) -> Checked
+    ensures { λ r. ⌜ r ≡ afterWalk (now (file .entry)) walked ⌝ }
+{
+    match walked {
+        Walked::Faulty(number, k) => Checked::Refused(number, k),
+        Walked::Fine(records, procedures) => after_order(
+            file,
+            records,
+            procedures,
+            order::order(file),
+        ),
+    }
+}
+
+// The document's answer for any file.
+pub fn check(file: &[u8]) -> Checked
+    ensures { λ r. ⌜ r ≡ checkOf (now (file .entry)) ⌝ }
+{
+    if 32768 < file.len() {
+        return Checked::Refused(1, 0);
+    }
+    after_walk(file, reading::walk(file))
 }

@@ -41,7 +41,7 @@ fn set_body(file: &[u8], at: usize) -> bool
 }
 
 // Kinds whose body is an expression: IF, FI, FROM, UNTIL.
-fn tests(kind: usize) -> bool
+pub fn tests(kind: usize) -> bool
     ensures { λ r. ⌜ r ≡ tests kind ⌝ }
 {
     if kind == 5 {
@@ -57,7 +57,7 @@ fn tests(kind: usize) -> bool
 }
 
 // Kinds whose body is a procedure's number: CALL, UNCALL.
-fn calls(kind: usize) -> bool
+pub fn calls(kind: usize) -> bool
     ensures { λ r. ⌜ r ≡ calls kind ⌝ }
 {
     if kind == 11 { true } else { kind == 12 }

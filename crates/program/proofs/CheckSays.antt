@@ -1,0 +1,217 @@
+-- The check's answer is the document's: `checkOf` and `Says` are one.
+--     says, only        Says f a exactly if a is checkOf f
+--     determined        so the answer is determined
+--     accepted-tree     accepted exactly if the file is that of a tree, and its counts are the tree's
+--     accepts-unique    that tree is unique
+use mathlib.Core.Path.{_≡_, refl, sym, ap, subst, _∙_}
+use mathlib.Core.List.{List, [], _∷_, _++_, map}
+use mathlib.Core.Logic.{_↔_}
+use mathlib.Core.Bool.{Bool, true, false, cond}
+use Prim.Native.Nat.{ℕ, zero, suc, _+_, _^_, _≤_, _<_}
+use native.Mathlib.Nat.{zero-add}
+use native.Mathlib.Omega.{arith}
+use borrow.Author.Tests.{lt-ltb, le-ltb, ltb-true, ltb-false}
+use lib.Dec.{ltb}
+use lib.ListN.{length, getD, drop}
+use Rattle.codes.specs.Codes.{AllBytes}
+use Rattle.program.specs.Records.{Record, names, begin, end, set, if, else, fi, from, loop, until, call, uncall, skip, kind, body, encodeRecord, bytesOf, Formed, FineFrom, begins, there, sum}
+use Rattle.program.specs.Trees.{Stmt, setS, skipS, callS, uncallS, ifS, fromS, Block, one, _then_, Tree, recordsS, recordsB, recordsP, recordsOf, procedures, cells, Ordered}
+use Rattle.program.specs.Says.{word, Rows, All, FirstNot, thereIn, free, Accepts, Says, too-long, in-turn, order, not-there, own-name, accepted}
+use Rattle.program.specs.Walk.{offsets, kindsAt}
+use Rattle.program.specs.Reading.{shortsAt, walkOf}
+use Rattle.program.specs.Order.{kinds, orderOf}
+use Rattle.program.specs.Names.{passes, firstNot}
+use Rattle.program.specs.Check.{cellsOf, named, afterOwn, afterThere, afterOrder, afterWalk, checkOf}
+use Rattle.program.specs.declared.Walked.{Walked}
+use Rattle.program.specs.declared.Walked.the-variants.{Fine, Faulty}
+use Rattle.program.specs.declared.order.Placed.{Placed}
+use Rattle.program.specs.declared.order.Placed.the-variants.{InOrder, Misplaced}
+use Rattle.program.specs.declared.names.First.{First}
+use Rattle.program.specs.declared.names.First.the-variants.{Nowhere, At}
+use Rattle.program.specs.declared.Checked.{Checked}
+use Rattle.program.specs.declared.Checked.the-variants.{Accepted, Refused}
+use Rattle.program.proofs.Declared.{Declares, declares}
+use Rattle.program.proofs.Offsets.{kinds-of}
+use Rattle.program.proofs.Walking.{walk-fine, fine-walk, walk-wrong, wrong-walk, rows-unique}
+use Rattle.program.proofs.OrderSays.{order-ordered, ordered-order, order-misplaced, misplaced-order, ordered-unique}
+use Rattle.program.proofs.Passes.{there-is, free-is, first-at, first-none, at-first, none-first}
+
+-- ---- as many BEGINs as procedures
+begins-append : (xs ys : List Record) → begins (xs ++ ys) ≡ begins xs + begins ys
+unfolding begins
+begins-append [] ys = omega arith
+begins-append (x ∷ xs) ys = omega (arith, begins-append xs ys)
+
+mutual
+  unfolding begins recordsS kind
+
+  no-begin-s : (s : Stmt) → begins (recordsS s) ≡ 0
+  no-begin-s (setS o t e) = refl
+  no-begin-s skipS = refl
+  no-begin-s (callS q) = refl
+  no-begin-s (uncallS q) = refl
+  no-begin-s (ifS e s t e′) =
+      simp begins-append (omega (arith, no-begin-b s, no-begin-b t))
+  no-begin-s (fromS e s t e′) =
+      simp begins-append (omega (arith, no-begin-b s, no-begin-b t))
+
+  no-begin-b : (b : Block) → begins (recordsB b) ≡ 0
+  no-begin-b (one s) = no-begin-s s
+  no-begin-b (_then_ s b) = simp begins-append (omega (arith, no-begin-s s, no-begin-b b))
+
+begins-p : (bs : List Block) → begins (recordsP bs) ≡ length bs
+unfolding begins recordsP kind
+begins-p [] = refl
+begins-p (b ∷ bs) = simp begins-append (omega (arith, no-begin-b b, begins-p bs))
+
+begins-tree : (t : Tree) → begins (recordsOf t) ≡ length (procedures t)
+unfolding begins recordsOf kind
+begins-tree t = zero-add (begins (recordsP (procedures t))) ∙ begins-p (procedures t)
+
+map-kinds : (rs : List Record) → map kind rs ≡ kinds rs
+unfolding kinds
+map-kinds [] = refl
+map-kinds (r ∷ rs) = ap (_∷_ (kind r)) (map-kinds rs)
+
+-- the test of a pass, with what the first record declares
+abbrev asks : Bool → List ℕ → ℕ → ℕ → Bool
+asks own f p = passes own f (word f 4) (word f 6) p
+
+-- ---- the answer after each question, on a row of records
+module _ (f : List ℕ) where
+  after-long : length f ≤ 32768 → checkOf f ≡ afterWalk f (walkOf f)
+  unfolding checkOf
+  after-long h = rw (le-ltb 32768 (length f) h)
+
+  too-long-is : 32768 < length f → checkOf f ≡ Refused 1 0
+  unfolding checkOf
+  too-long-is h = rw (lt-ltb 32768 (length f) h)
+
+module _ (f : List ℕ) (B : AllBytes f) (rs : List Record) (R : Rows f rs) where
+  small : length f < 2 ^ 16
+  small = omega (arith, R .short)
+
+  kinds-are : kindsAt f (offsets f) ≡ kinds rs
+  kinds-are = kinds-of f rs small (R .bytes) ∙ map-kinds rs
+
+  after-walk : checkOf f ≡ afterOrder f (length rs) (begins rs) (orderOf (kinds rs))
+  after-walk = after-long f (R .short) ∙ rw (fine-walk f B small rs (R .bytes) (R .fine), kinds-are)
+
+  module _ (t : Tree) (O : Ordered rs t) where
+    p-is : begins rs ≡ length (procedures t)
+    p-is = ap begins (sym (O .records)) ∙ begins-tree t
+
+    declared : Declares f t
+    declared = declares f rs R t O
+
+    cells-are : cellsOf f ≡ cells t
+    unfolding cellsOf
+    cells-are = rw (declared .scalars-are, declared .arrays-are, declared .lengths-are)
+
+    same-there : (j : ℕ) → j < length rs → asks false f (begins rs) (getD (offsets f) j 0) ≡ thereIn t (getD rs j skip)
+    same-there j h =
+        there-is f rs R j h (word f 4) (word f 6) (begins rs)
+        ∙ rw (declared .scalars-are, declared .arrays-are, p-is)
+
+    same-free : (j : ℕ) → j < length rs → asks true f (begins rs) (getD (offsets f) j 0) ≡ free (getD rs j skip)
+    same-free j h = free-is f rs R j h
+
+    after-order : checkOf f ≡ afterThere f (length rs) (begins rs) (named false f (begins rs))
+    after-order = after-walk ∙ rw (ordered-order rs t O)
+
+    after-there : All (thereIn t) rs → checkOf f ≡ afterOwn f (length rs) (begins rs) (named true f (begins rs))
+    after-there A = after-order ∙ rw (first-none f rs R (asks false f (begins rs)) (thereIn t) same-there A)
+
+    after-all : All (thereIn t) rs → All free rs → checkOf f ≡ Accepted (length (recordsOf t)) (length (procedures t)) (cells t)
+    after-all A L = after-there A ∙ rw (first-none f rs R (asks true f (begins rs)) free same-free L, cells-are, p-is, O .records)
+
+-- ---- the answer is what is said
+module _ (f : List ℕ) (B : AllBytes f) where
+  pub only : (a : Checked) → Says f a → a ≡ checkOf f
+  only a (too-long h) = sym (too-long-is f h)
+  only a (in-turn {n = n} h rs rest e F w) = sym (after-long f h ∙ rw (wrong-walk f B (omega arith) n rs rest e F w))
+  only a (order {k = k} rs R m) = sym (after-walk f B rs R ∙ rw (misplaced-order rs k m))
+  only a (not-there {k = k} rs t R O n) =
+      sym (after-order f B rs R t O ∙ rw (first-at f rs R (asks false f (begins rs)) (thereIn t) (same-there f B rs R t O) k n))
+  only a (own-name {k = k} rs t R O A n) =
+      sym (after-there f B rs R t O A ∙ rw (first-at f rs R (asks true f (begins rs)) free (same-free f B rs R t O) k n))
+  only a (accepted t A) = sym (after-all f B (recordsOf t) (A .rows) t (A .ordered) (A .numbers) (A .owns))
+
+  pub determined : (a b : Checked) → Says f a → Says f b → a ≡ b
+  determined a b x y = only a x ∙ sym (only b y)
+
+  -- each question in turn, by what was found
+  module _ (rs : List Record) (R : Rows f rs) where
+    module _ (t : Tree) (O : Ordered rs t) where
+      from-own : All (thereIn t) rs → (x : First) → named true f (begins rs) ≡ x → Says f (afterOwn f (length rs) (begins rs) x)
+      from-own A (At k) e = own-name rs t R O A (at-first f rs R (asks true f (begins rs)) free (same-free f B rs R t O) k e)
+      from-own A Nowhere e =
+          let L = none-first f rs R (asks true f (begins rs)) free (same-free f B rs R t O) e in
+          rw (cells-are f B rs R t O, p-is f B rs R t O, ← O .records)
+          (accepted t (record {
+            rows = rw (O .records) R;
+            ordered = rw (O .records) O;
+            numbers = rw (O .records) A;
+            owns = rw (O .records) L;
+          }))
+
+      from-there : (x : First) → named false f (begins rs) ≡ x → Says f (afterThere f (length rs) (begins rs) x)
+      from-there (At k) e = not-there rs t R O (at-first f rs R (asks false f (begins rs)) (thereIn t) (same-there f B rs R t O) k e)
+      from-there Nowhere e = from-own (none-first f rs R (asks false f (begins rs)) (thereIn t) (same-there f B rs R t O) e) (named true f (begins rs)) refl
+
+    from-order : (x : Placed) → orderOf (kinds rs) ≡ x → Says f (afterOrder f (length rs) (begins rs) x)
+    from-order (Misplaced k) e = order rs R (order-misplaced rs k e)
+    from-order InOrder e = let w = order-ordered rs e in from-there (w .0) (w .1) (named false f (begins rs)) refl
+
+  from-rows : (rs : List Record) (r p : ℕ) → Rows f rs → r ≡ length rs → p ≡ begins rs → Says f (afterOrder f r p (orderOf (kindsAt f (offsets f))))
+  from-rows rs r p R x y = rw (x, y, kinds-are f B rs R) (from-order rs R (orderOf (kinds rs)) refl)
+
+  from-walk : length f ≤ 32768 → (w : Walked) → walkOf f ≡ w → Says f (afterWalk f w)
+  from-walk h (Faulty n k) e =
+      let w = walk-wrong f B n k e in
+      rw (w .4) (in-turn h (w .0) (w .1) (w .2) (w .3) (w .5))
+  from-walk h (Fine r p) e =
+      let w = walk-fine f B r p e in
+      from-rows (w .0) r p (record { short = h; bytes = w .1; fine = w .2 }) (w .3) (w .4)
+
+  pub says : Says f (checkOf f)
+  unfolding checkOf
+  says = go (ltb 32768 (length f)) refl
+    where
+      go : (b : Bool) → ltb 32768 (length f) ≡ b → Says f (cond b (Refused 1 0) (afterWalk f (walkOf f)))
+      go true e = too-long (ltb-true 32768 (length f) e)
+      go false e = from-walk (ltb-false 32768 (length f) e) (walkOf f) refl
+
+  -- ---- accepted files are those of trees
+  pub accepts-unique : (t u : Tree) → Accepts f t → Accepts f u → t ≡ u
+  accepts-unique t u A A′ =
+      let e : recordsOf t ≡ recordsOf u =
+      rows-unique (recordsOf t) (recordsOf u) 0 0 0 0 (omega (arith, A .rows .short, ap length (A .rows .bytes))) (A .rows .fine) (A′ .rows .fine)
+      (sym (A .rows .bytes) ∙ A′ .rows .bytes) in
+      ordered-unique (recordsOf u) t u (rw e at (A .ordered)) (A′ .ordered)
+
+  pub accepted-check : (t : Tree) → Accepts f t → checkOf f ≡ Accepted (length (recordsOf t)) (length (procedures t)) (cells t)
+  accepted-check t A = sym (only _ (accepted t A))
+
+  -- the tree of an accepted file
+  pub record TreeOf (r p c : ℕ) : Type 0 where
+    pub tree : Tree
+    pub accepts : Accepts f tree
+    pub records-are : r ≡ length (recordsOf tree)
+    pub procedures-are : p ≡ length (procedures tree)
+    pub cells-are′ : c ≡ cells tree
+
+  of-says : (a : Checked) (r p c : ℕ) → Says f a → a ≡ Accepted r p c → TreeOf r p c
+  of-says a r p c (too-long h) e = let z : _≡_ {A = ℕ} 0 1 = cc in absurd (omega arith)
+  of-says a r p c (in-turn h rs rest d F w) e = let z : _≡_ {A = ℕ} 0 1 = cc in absurd (omega arith)
+  of-says a r p c (order rs R m) e = let z : _≡_ {A = ℕ} 0 1 = cc in absurd (omega arith)
+  of-says a r p c (not-there rs t R O n) e = let z : _≡_ {A = ℕ} 0 1 = cc in absurd (omega arith)
+  of-says a r p c (own-name rs t R O A n) e = let z : _≡_ {A = ℕ} 0 1 = cc in absurd (omega arith)
+  of-says a r p c (accepted t A) e =
+      record { tree = t; accepts = A; records-are = cc; procedures-are = cc; cells-are′ = cc }
+
+  pub accepted-tree : (r p c : ℕ) → (checkOf f ≡ Accepted r p c) ↔ TreeOf r p c
+  accepted-tree r p c = (
+    of-says (checkOf f) r p c says,
+    λ T. accepted-check (T .tree) (T .accepts) ∙ rw (T .records-are, T .procedures-are, T .cells-are′),
+  )

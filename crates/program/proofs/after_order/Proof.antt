@@ -1,0 +1,18 @@
+-- `program::after_order` meets its contract: its answers are the cases of `CheckCases`.
+use Rattle.program.proofs.CheckCases.{answers}
+use borrow.Author.Needs.{needs}
+use Rattle.program.proofs.after_order.Statement.{statement}
+use Rattle.program.proofs.after_order.Tie as tie
+
+pub after-order-spec : {M : Type 1} → statement M
+after-order-spec =
+    tie.close
+    (tie.spec
+    (λ c. search needs)
+    (λ c. search needs)
+    (λ c κs. search needs)
+    (λ c κs. search needs)
+    (λ c κs. search needs)
+    (λ c κs. search needs)
+    (λ c. search answers)
+    (λ c. search answers))

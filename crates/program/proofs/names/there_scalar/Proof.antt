@@ -1,0 +1,16 @@
+-- `program::names::there_scalar` meets its contract: its answers are the cases of `NamesCases`.
+use Rattle.program.proofs.NamesCases.{cases}
+use borrow.Author.Needs.{needs}
+use Rattle.program.proofs.names.there_scalar.Statement.{statement}
+use Rattle.program.proofs.names.there_scalar.Tie as tie
+
+pub there-scalar-spec : {M : Type 1} → statement M
+there-scalar-spec =
+    tie.close
+    (tie.spec
+    (λ c. search needs)
+    (λ c κs. search needs)
+    (λ c. search cases)
+    (λ c. search needs)
+    (λ c κs. search needs)
+    (λ c. search cases))

@@ -1,0 +1,8 @@
+-- `program::order::begun` meets its contract: the cases of `OrderCases`. Assumes nothing.
+use borrow.Author.Needs.{needs}
+use Rattle.program.proofs.OrderCases.{keeping}
+use Rattle.program.proofs.order.begun.Statement.{statement}
+use Rattle.program.proofs.order.begun.Tie as tie
+
+pub begun-spec : {M : Type 1} → statement M
+begun-spec = tie.close (tie.spec (λ c κs. search needs) (λ c. search keeping) (λ c κs. search needs) (λ c. search keeping) (λ c κs. search needs) (λ c. search keeping))

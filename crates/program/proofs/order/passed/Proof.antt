@@ -1,0 +1,8 @@
+-- `program::order::passed` meets its contract: the cases of `OrderCases`. Assumes nothing.
+use borrow.Author.Needs.{needs}
+use Rattle.program.proofs.OrderCases.{keeping}
+use Rattle.program.proofs.order.passed.Statement.{statement}
+use Rattle.program.proofs.order.passed.Tie as tie
+
+pub passed-spec : {M : Type 1} → statement M
+passed-spec = tie.close (tie.spec (λ c κs. search needs) (λ c. search keeping) (λ c κs. search needs) (λ c. search keeping) (λ c. search keeping))
