@@ -107,7 +107,7 @@ later n p r rs live (Misplaced k) (inl h) = inl (record { past = suc (h .past); 
 later n p r rs live (Misplaced k) (inr h) = inr (record { counts = omega (arith, h .counts); live = h .live; unfinished = h .unfinished })
 
 outcome : (rs : List Record) (n : ℕ) (p : Part) → (p ≡ dead → ⊥) → Outcome n p rs (orderFrom n (shape p) (kinds rs))
-unfolding orderFrom kinds reads
+unfolding orderFrom reads
 outcome [] n p live = at-end n p live (is (shape p) 2) refl
 outcome (r ∷ rs) n p live = subst (λ s. Outcome n p (r ∷ rs) (cond (is s 5) (Misplaced n) (orderFrom (suc n) s (kinds rs)))) (shape-grow p r)
     (go (is (shape (grow p r)) 5) refl (λ l. outcome rs (suc n) (grow p r) l))

@@ -5,4 +5,7 @@ use Rattle.program.proofs.order.bare.Statement.{statement}
 use Rattle.program.proofs.order.bare.Tie as tie
 
 pub bare-spec : {M : Type 1} → statement M
-bare-spec = tie.close (tie.spec (λ c. search keeping))
+bare-spec =
+    tie.close
+    (tie.spec
+    (λ c. search keeping))

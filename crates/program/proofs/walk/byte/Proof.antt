@@ -5,4 +5,10 @@ use Rattle.program.proofs.walk.byte.Statement.{statement}
 use Rattle.program.proofs.walk.byte.Tie as tie
 
 pub byte-spec : {M : Type 1} → statement M
-byte-spec = tie.close (tie.spec (λ c. search needs) (λ c κs. search needs) (λ c. search needs) (λ c. search walking))
+byte-spec =
+    tie.close
+    (tie.spec
+    (λ c. search needs)
+    (λ c κs. search needs)
+    (λ c. search needs)
+    (λ c. search walking))
