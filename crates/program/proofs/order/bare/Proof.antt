@@ -1,5 +1,4 @@
 -- `program::order::bare` meets its contract: the cases of `OrderCases`. Assumes nothing.
-use borrow.Author.Needs.{needs}
 use Rattle.program.proofs.OrderCases.{keeping}
 use Rattle.program.proofs.order.bare.Statement.{statement}
 use Rattle.program.proofs.order.bare.Tie as tie
