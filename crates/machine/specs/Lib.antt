@@ -1,0 +1,6 @@
+pub mod Labels
+pub mod Edges
+pub mod Places
+pub mod Step
+pub mod Runs
+pub mod Reasons
