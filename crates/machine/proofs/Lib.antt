@@ -1,1 +1,4 @@
+pub mod Linked
+pub mod Cuts
+pub mod Loop
 pub mod Lines
