@@ -4,4 +4,6 @@ pub mod Loop
 pub mod Rows
 pub mod Locals
 pub mod Whole
+pub mod Links
+pub mod Gaps
 pub mod Lines
