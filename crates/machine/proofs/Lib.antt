@@ -6,4 +6,5 @@ pub mod Locals
 pub mod Whole
 pub mod Links
 pub mod Gaps
+pub mod Follow
 pub mod Lines
