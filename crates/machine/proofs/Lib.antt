@@ -7,4 +7,5 @@ pub mod Whole
 pub mod Links
 pub mod Gaps
 pub mod Follow
+pub mod View
 pub mod Lines
