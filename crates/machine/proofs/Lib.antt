@@ -8,4 +8,5 @@ pub mod Links
 pub mod Gaps
 pub mod Follow
 pub mod View
+pub mod Sees
 pub mod Lines

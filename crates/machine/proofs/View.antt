@@ -165,20 +165,19 @@ module _ (τ : Tree) (w : Wf τ (prog τ)) where
   at-uncall : (c q : ℕ) → P .at c ≡ uncallL q → SimpleOk P c
   at-uncall c q e = (rw e at (w .here c)) .1
 
-  pub ret-sim : (x : ℕ) (p : Place) (q : ℕ) (cs : List ℕ) (σ : Store) → Good P q cs → length cs ≤ 64
-      → returned τ p (stack P cs) σ ≡ seen P (through τ P return′ x (p .d) cs σ)
+  pub ret-sim : (x : ℕ) (d : Dir) (q : ℕ) (cs : List ℕ) (σ : Store) → Good P q cs → length cs ≤ 64
+      → returned τ d (stack P cs) σ ≡ seen P (through τ P return′ x d cs σ)
   unfolding returned through seen kind
-  ret-sim x p q cs σ in-main n = refl
-  ret-sim x p q cs σ (by-call {q′ = q′} {c = c} {cs = cs′} ac lo hi o) n =
-      let d = p .d in
+  ret-sim x d q cs σ in-main n = refl
+  ret-sim x d q cs σ (by-call {q′ = q′} {c = c} {cs = cs′} ac lo hi o) n =
       let r : resumed (kind (at τ c)) d ≡ d = rw (at-is τ c, ac) in
       ap (λ p. ok (p, σ)) (rw (r, ac) (arrive c c d cs′ _ (fit τ P q′ cs′ o (omega arith) c d lo hi) (omega arith) (rw ac (side-call q c (opp d)))
         (ap (λ k. k ++ stack P cs′) (encl-gap c d (at-call c q ac)))))
-  ret-sim x p q cs σ (by-uncall {q′ = q′} {c = c} {cs = cs′} ac lo hi o) n =
-      let d = opp (p .d) in
-      let r : resumed (kind (at τ c)) (p .d) ≡ d = rw (at-is τ c, ac) in
-      ap (λ p. ok (p, σ)) (rw (r, ac) (arrive c c d cs′ _ (fit τ P q′ cs′ o (omega arith) c d lo hi) (omega arith) (rw ac (side-uncall q c (opp d)))
-        (ap (λ k. k ++ stack P cs′) (encl-gap c d (at-uncall c q ac)))))
+  ret-sim x d q cs σ (by-uncall {q′ = q′} {c = c} {cs = cs′} ac lo hi o) n =
+      let d′ = opp d in
+      let r : resumed (kind (at τ c)) d ≡ opp d = rw (at-is τ c, ac) in
+      ap (λ p. ok (p, σ)) (rw (r, ac) (arrive c c d′ cs′ _ (fit τ P q′ cs′ o (omega arith) c d′ lo hi) (omega arith) (rw ac (side-uncall q c (opp d′)))
+        (ap (λ k. k ++ stack P cs′) (encl-gap c d′ (at-uncall c q ac)))))
 
   pub gate-is : (q : ℕ) (d : Dir) → gate τ q d ≡ gateL P q d
   unfolding prog

@@ -166,9 +166,9 @@ must false x = no wrongValue
 abbrev pub resumed : ℕ → Dir → Dir
 resumed k d = cond (eqb k 12) (opp d) d
 
-unfoldable pub returned : Tree → Place → List Frame → Store → Answer (Place × Store)
-returned t p [] σ = no atEnd
-returned t p (f ∷ F) σ = ok (after t (frameLabel f) (resumed (kind (at t (frameLabel f))) (p .d)) F, σ)
+unfoldable pub returned : Tree → Dir → List Frame → Store → Answer (Place × Store)
+returned t d [] σ = no atEnd
+returned t d (f ∷ F) σ = ok (after t (frameLabel f) (resumed (kind (at t (frameLabel f))) d) F, σ)
 
 -- "A step forward executes b in direction d; afterwards a is the label just executed and b follows it on the edge."
 unfoldable pub perform : Tree → Act → Place → Store → Answer (Place × Store)
@@ -189,7 +189,7 @@ perform t (tests e h) p σ =
 -- "CALL enters the procedure: a becomes its BEGIN going down, its END going up. It pushes 4." 34: "a 65th call"
 perform t (enters q d) p σ = cond (ltb (calls (p .frames)) 64) (ok (after t (gate t q d) d (called (p .b) ∷ p .frames), σ)) (no tooDeep)
 -- "END down and BEGIN up return: pop the call"
-perform t returns p σ = returned t p (p .frames) σ
+perform t returns p σ = returned t (p .d) (p .frames) σ
 -- No place that fits comes here.
 perform t nothing p σ = ok (p, σ)
 
