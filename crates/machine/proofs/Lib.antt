@@ -9,4 +9,5 @@ pub mod Gaps
 pub mod Follow
 pub mod View
 pub mod Sees
+pub mod Match
 pub mod Lines
