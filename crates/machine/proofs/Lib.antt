@@ -10,4 +10,6 @@ pub mod Follow
 pub mod View
 pub mod Sees
 pub mod Match
+pub mod Undo
+pub mod Walks
 pub mod Lines
