@@ -12,4 +12,5 @@ pub mod Sees
 pub mod Match
 pub mod Undo
 pub mod Walks
+pub mod Runs
 pub mod Lines

@@ -22,11 +22,16 @@ pub record Ran : Type 0 where
   pub stop : Stop
 
 -- "A run of n steps stops at n or the first refusal", with steps that s makes.
+abbrev pub counted : Ran → Ran
+counted r = record { steps = suc (r .steps); place = r .place; store = r .store; stop = r .stop }
+
+abbrev pub onward : Answer (Place × Store) → (Place → Store → Ran) → Place → Store → Ran
+onward (no r) k p σ = record { steps = 0; place = p; store = σ; stop = because r }
+onward (ok x) k p σ = counted (k (x .0) (x .1))
+
 unfoldable pub runBy : (Place → Store → Answer (Place × Store)) → ℕ → Place → Store → Ran
 runBy s zero p σ = record { steps = 0; place = p; store = σ; stop = made }
-runBy s (suc n) p σ = elim (s p σ) [
-  no r ↦ record { steps = 0; place = p; store = σ; stop = because r }
-  | ok x ↦ let r = runBy s n (x .0) (x .1) in record { steps = suc (r .steps); place = r .place; store = r .store; stop = r .stop } ]
+runBy s (suc n) p σ = onward (s p σ) (λ p σ. runBy s n p σ) p σ
 
 abbrev pub run : Tree → ℕ → Place → Store → Ran
 run t = runBy (step t)
