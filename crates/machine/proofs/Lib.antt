@@ -13,4 +13,5 @@ pub mod Match
 pub mod Undo
 pub mod Walks
 pub mod Runs
+pub mod Why
 pub mod Lines

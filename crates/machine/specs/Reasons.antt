@@ -16,15 +16,14 @@ use Rattle.machine.specs.Places.{Dir, down, up, Place, calls}
 use Rattle.machine.specs.Step.{Reason, atEnd, wrongValue, zeroDivisor, badIndex, tooDeep, Store, arraysOf}
 
 -- 30: "END down or BEGIN up of main, no call left"
-pub record AtEnd (t : Tree) (p : Place) : Type 0 where
-  pub met : ((at t (p .b) ≡ end) × (p .d ≡ down)) ⊎ ((at t (p .b) ≡ begin) × (p .d ≡ up))
-  pub left : calls (p .frames) ≡ 0
+pub data AtEnd (fs : List Frame) : Record → Dir → Type 0 where
+  end-down : calls fs ≡ 0 → AtEnd fs end down
+  begin-up : calls fs ≡ 0 → AtEnd fs begin up
 
 -- 34: "a 65th call"
-pub record TooDeep (t : Tree) (p : Place) : Type 0 where
-  pub proc : ℕ
-  pub met : (at t (p .b) ≡ call proc) ⊎ (at t (p .b) ≡ uncall proc)
-  pub full : calls (p .frames) ≡ 64
+pub data TooDeep (fs : List Frame) : Record → Type 0 where
+  at-call : {q : ℕ} → calls fs ≡ 64 → TooDeep fs (call q)
+  at-uncall : {q : ℕ} → calls fs ≡ 64 → TooDeep fs (uncall q)
 
 -- "index below 0 or not below the array's length"
 abbrev pub Misses : Tree → ℕ → ℤ → Type 0
@@ -52,20 +51,25 @@ pub data Opens : Record → Dir → Expr → Type 0 where
   from-down : {e : Expr} → Opens (from e) down e
   until-up : {e : Expr} → Opens (until e) up e
 
--- 31: "a closing or opening value is the wrong one". A branch 0 closes by true, 1 by false; one opens by true from outside, by false from s2.
-pub data Wrong (t : Tree) (p : Place) (σ : Store) : Type 0 where
-  then-false : {e : Expr} {v : ℤ} {l : ℕ} {F : List Frame} → Closes (at t (p .b)) (p .d) e → p .frames ≡ inThen l ∷ F
-      → eval (arraysOf t) σ e ≡ is v → isTrue v ≡ false → Wrong t p σ
-  else-true : {e : Expr} {v : ℤ} {l : ℕ} {F : List Frame} → Closes (at t (p .b)) (p .d) e → p .frames ≡ inElse l ∷ F
-      → eval (arraysOf t) σ e ≡ is v → isTrue v ≡ true → Wrong t p σ
-  outside-false : {e : Expr} {v : ℤ} → Opens (at t (p .b)) (p .d) e → ((F : List Frame) → p .frames ≡ inLoop (head t (p .b)) ∷ F → ⊥)
-      → eval (arraysOf t) σ e ≡ is v → isTrue v ≡ false → Wrong t p σ
-  again-true : {e : Expr} {v : ℤ} {F : List Frame} → Opens (at t (p .b)) (p .d) e → p .frames ≡ inLoop (head t (p .b)) ∷ F
-      → eval (arraysOf t) σ e ≡ is v → isTrue v ≡ true → Wrong t p σ
+-- 31: "a closing or opening value is the wrong one": branch 0 closes by true, 1 by false; one opens by true from outside, by false from s2.
+-- `h` is the label of the record's IF or FROM.
+pub data Wrong (t : Tree) (σ : Store) (h : ℕ) (fs : List Frame) : Record → Dir → Type 0 where
+  then-false : {ρ : Record} {d : Dir} {e : Expr} {v : ℤ} {l : ℕ} {F : List Frame} → Closes ρ d e → fs ≡ inThen l ∷ F
+      → eval (arraysOf t) σ e ≡ is v → isTrue v ≡ false → Wrong t σ h fs ρ d
+  else-true : {ρ : Record} {d : Dir} {e : Expr} {v : ℤ} {l : ℕ} {F : List Frame} → Closes ρ d e → fs ≡ inElse l ∷ F
+      → eval (arraysOf t) σ e ≡ is v → isTrue v ≡ true → Wrong t σ h fs ρ d
+  outside-false : {ρ : Record} {d : Dir} {e : Expr} {v : ℤ} → Opens ρ d e → ((F : List Frame) → fs ≡ inLoop h ∷ F → ⊥)
+      → eval (arraysOf t) σ e ≡ is v → isTrue v ≡ false → Wrong t σ h fs ρ d
+  again-true : {ρ : Record} {d : Dir} {e : Expr} {v : ℤ} {F : List Frame} → Opens ρ d e → fs ≡ inLoop h ∷ F
+      → eval (arraysOf t) σ e ≡ is v → isTrue v ≡ true → Wrong t σ h fs ρ d
+
+-- The condition of each reason, of the record that is met at a place.
+abbrev pub Meets : Tree → Store → (h : ℕ) → List Frame → Record → Dir → Reason → Type 0
+Meets t σ h fs ρ d atEnd = AtEnd fs ρ d
+Meets t σ h fs ρ d wrongValue = Wrong t σ h fs ρ d
+Meets t σ h fs ρ d zeroDivisor = Faults t σ ρ byZero
+Meets t σ h fs ρ d badIndex = Faults t σ ρ outside
+Meets t σ h fs ρ d tooDeep = TooDeep fs ρ
 
 abbrev pub Condition : Tree → Place → Store → Reason → Type 0
-Condition t p σ atEnd = AtEnd t p
-Condition t p σ wrongValue = Wrong t p σ
-Condition t p σ zeroDivisor = Faults t σ (at t (p .b)) byZero
-Condition t p σ badIndex = Faults t σ (at t (p .b)) outside
-Condition t p σ tooDeep = TooDeep t p
+Condition t p σ r = Meets t σ (head t (p .b)) (p .frames) (at t (p .b)) (p .d) r

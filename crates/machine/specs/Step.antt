@@ -52,17 +52,20 @@ startsFrom n (l ∷ ls) = n ∷ startsFrom (n + l) ls
 abbrev pub arraysOf : Tree → Arrays
 arraysOf t = record { starts = startsFrom (t .scalars) (t .lengths); lengths = t .lengths }
 
--- The value of an expression, and its truth.
+-- The value of an expression, and its truth; what stops an evaluation is a reason.
+abbrev pub reasonOf : Fault → Reason
+reasonOf byZero = zeroDivisor
+reasonOf outside = badIndex
+
 abbrev pub answered : Worth → Answer ℤ
 answered (is v) = ok v
-answered (stop byZero) = no zeroDivisor
-answered (stop outside) = no badIndex
+answered (stop f) = no (reasonOf f)
 
-unfoldable pub value : Tree → Store → Expr → Answer ℤ
-value t σ e = answered (eval (arraysOf t) σ e)
+unfoldable pub evaluated : Tree → Store → Expr → Answer ℤ
+evaluated t σ e = answered (eval (arraysOf t) σ e)
 
 unfoldable pub holds : Tree → Store → Expr → Answer Bool
-holds t σ e = bind (value t σ e) (λ v. ok (isTrue v))
+holds t σ e = bind (evaluated t σ e) (λ v. ok (isTrue v))
 
 -- "operator (0 `+`, 1 `-`, 2 `^`)"; "SET down applies its operator, up the opposite one (`^` is its own)."
 abbrev pub applied : ℕ → ℤ → ℤ → ℤ
@@ -83,11 +86,11 @@ element t a (negsuc i) = no badIndex
 
 unfoldable pub cellOf : Tree → Store → Target → Answer ℕ
 cellOf t σ (cell x) = ok x
-cellOf t σ (entry a i) = bind (value t σ i) (λ v. element t a v)
+cellOf t σ (entry a i) = bind (evaluated t σ i) (λ v. element t a v)
 
 unfoldable pub assigned : Tree → ℕ → Target → Expr → Dir → Store → Answer Store
 assigned t o x e d σ =
-    bind (cellOf t σ x) (λ c. bind (value t σ e) (λ v. ok (put σ c (applied (operator o d) (getD σ c (pos 0)) v))))
+    bind (cellOf t σ x) (λ c. bind (evaluated t σ e) (λ v. ok (put σ c (applied (operator o d) (getD σ c (pos 0)) v))))
 
 -- What executing a record is, in a direction. `h` is the label of the record's IF or FROM.
 pub data Act : Type 0 where
