@@ -14,4 +14,5 @@ pub mod Undo
 pub mod Walks
 pub mod Runs
 pub mod Why
+pub mod Conditions
 pub mod Lines
