@@ -133,10 +133,10 @@ module _ (τ : Tree) (σ : Store) where
       let c = hits-ok a v m in rw (evaluated-is i v q, c .1, evaluated-stop e f k)
 
 -- ---- what the frames are where a record is met
-abbrev Branch : List Frame → Type 0
+abbrev pub Branch : List Frame → Type 0
 Branch fs = (l : ℕ) × (F : List Frame) × ((fs ≡ inThen l ∷ F) ⊎ (fs ≡ inElse l ∷ F))
 
-abbrev Top : List Frame → Type 0
+abbrev pub Top : List Frame → Type 0
 Top [] = Unit {0}
 Top (inThen l ∷ F) = ⊥
 Top (inElse l ∷ F) = ⊥

@@ -15,4 +15,5 @@ pub mod Walks
 pub mod Runs
 pub mod Why
 pub mod Conditions
+pub mod Refusals
 pub mod Lines
