@@ -1,12 +1,16 @@
--- Expressions as trees: how deep they are, which bytes they are, what they are worth in a store and which names they hold.
-use Prim.Native.Nat.{ℕ, suc, _+_, _*_, _/_, _%_, _^_, _≤_, _<_, max}
-use mathlib.Core.List.{List, [], _∷_, _++_}
+-- Expressions as trees: how deep they are, which bytes they are, what they are worth in a store, which names they hold.
+-- Document 01, 'The program file' and 'Values'. Assumes nothing: these are definitions.
+use Prim.Native.Nat.{ℕ, _+_, _^_, _<_, max}
+use mathlib.Core.Path.{_≡_}
+use mathlib.Core.List.{List, _∷_, _++_}
 use mathlib.Core.Bool.{Bool, true, false, cond, _||_, _&&_}
 use lib.ListN.{getD}
 use lib.Dec.{ltb, eqb}
 use lib.IntN.{ℤ, pos, negsuc}
 use mir.Syntax.{w32}
-use mir.Val.{SFits, ofZ, toZ}
+use mir.Val.{SFits}
+use Rattle.values.specs.Values.{Value, is, zeroDivisor, applyOp}
+use Rattle.codes.specs.Codes.{bytes16, cellBytes}
 
 -- a constant, a scalar by number, an array by number read at an index, an operator on two sides
 pub data Expr : Type 0 where
@@ -15,28 +19,23 @@ pub data Expr : Type 0 where
   read : ℕ → Expr → Expr
   bin : ℕ → Expr → Expr → Expr
 
+-- 'a constant or scalar has 1, an array read 1 more than its index, a binary 1 more than the deeper side'
 unfoldable pub depth : Expr → ℕ
 depth (con v) = 1
 depth (var x) = 1
 depth (read a i) = depth i + 1
 depth (bin o l r) = max (depth l) (depth r) + 1
 
--- the numbers are ones that the bytes can hold
+-- the numbers are ones that the bytes can hold: i32 constants, u16 names, operators 0 to 15
 unfoldable pub Valid : Expr → Type 0
 Valid (con v) = SFits w32 v
 Valid (var x) = x < 2 ^ 16
 Valid (read a i) = (a < 2 ^ 16) × Valid i
 Valid (bin o l r) = (o < 16) × (Valid l × Valid r)
 
--- little-endian
-abbrev pub bytes16 : ℕ → List ℕ
-bytes16 v = v % 256 ∷ v / 256 ∷ []
-
-abbrev pub bytes32 : ℕ → List ℕ
-bytes32 v = v % 256 ∷ v / 256 % 256 ∷ v / 65536 % 256 ∷ v / 16777216 ∷ []
-
+-- 'byte 0 and an i32 constant; 1 and a u16 scalar; 2, a u16 array and its index expression; 3, a u8 operator, left, right'
 unfoldable pub encode : Expr → List ℕ
-encode (con v) = 0 ∷ bytes32 (ofZ w32 v)
+encode (con v) = 0 ∷ cellBytes v
 encode (var x) = 1 ∷ bytes16 x
 encode (read a i) = 2 ∷ bytes16 a ++ encode i
 encode (bin o l r) = 3 ∷ o ∷ encode l ++ encode r
@@ -46,36 +45,41 @@ pub record Arrays : Type 0 where
   pub starts : List ℕ
   pub lengths : List ℕ
 
+-- what stops an evaluation: '32 zero divisor', '33 index below 0 or not below the array's length'
 pub data Fault : Type 0 where
-  zeroDivisor : Fault
+  byZero : Fault
   badIndex : Fault
 
--- a value, or what stops the evaluation
+-- a value, or what stopped the evaluation
 pub data Worth : Type 0 where
-  is : ℤ → Worth
+  value : ℤ → Worth
   stop : Fault → Worth
 
-unfoldable pub apply : ℕ → ℤ → ℤ → Worth
-apply o a b = cond (eqb o 4) (cond (eqb (ofZ w32 b) 0) (stop zeroDivisor) (is a)) (is (toZ w32 ((ofZ w32 a + ofZ w32 b) % 2 ^ 32)))
+abbrev pub worthOf : Value → Worth
+worthOf (is v) = value v
+worthOf zeroDivisor = stop byZero
 
+-- 'both sides are always evaluated, left first'
 abbrev pub both : ℕ → Worth → Worth → Worth
-both o (stop f) y = stop f
-both o (is a) (stop f) = stop f
-both o (is a) (is b) = apply o a b
+both o (stop f) r = stop f
+both o (value x) (stop f) = stop f
+both o (value x) (value y) = worthOf (applyOp o x y)
 
+-- array a at an index: it is tested, then the cell is read
 unfoldable pub element : Arrays → List ℤ → ℕ → ℤ → Worth
-element A σ a (pos i) = cond (ltb i (getD (A .lengths) a 0)) (is (getD σ (getD (A .starts) a 0 + i) (pos 0))) (stop badIndex)
-element A σ a (negsuc i) = stop badIndex
+element arrays cells a (pos i) = cond (ltb i (getD (arrays .lengths) a 0)) (value (getD cells (getD (arrays .starts) a 0 + i) (pos 0))) (stop badIndex)
+element arrays cells a (negsuc i) = stop badIndex
 
+-- 'an array read evaluates its own index, then tests it, then reads'
 abbrev pub indexed : Arrays → List ℤ → ℕ → Worth → Worth
-indexed A σ a (stop f) = stop f
-indexed A σ a (is i) = element A σ a i
+indexed arrays cells a (stop f) = stop f
+indexed arrays cells a (value i) = element arrays cells a i
 
 unfoldable pub eval : Arrays → List ℤ → Expr → Worth
-eval A σ (con v) = is v
-eval A σ (var x) = is (getD σ x (pos 0))
-eval A σ (read a i) = indexed A σ a (eval A σ i)
-eval A σ (bin o l r) = both o (eval A σ l) (eval A σ r)
+eval arrays cells (con v) = value v
+eval arrays cells (var x) = value (getD cells x (pos 0))
+eval arrays cells (read a i) = indexed arrays cells a (eval arrays cells i)
+eval arrays cells (bin o l r) = both o (eval arrays cells l) (eval arrays cells r)
 
 -- a name: a scalar or an array, by its number. Scalar 0 and array 0 are two names.
 pub data Name : Type 0 where
@@ -83,22 +87,33 @@ pub data Name : Type 0 where
   array : ℕ → Name
 
 abbrev pub isScalar : Name → ℕ → Bool
-isScalar (scalar x) y = eqb y x
-isScalar (array x) y = false
+isScalar (scalar n) x = eqb x n
+isScalar (array n) x = false
 
 abbrev pub isArray : Name → ℕ → Bool
-isArray (scalar x) y = false
-isArray (array x) y = eqb y x
+isArray (scalar n) a = false
+isArray (array n) a = eqb a n
 
+-- the name stands somewhere in the tree, in an array read's index too
 unfoldable pub occurs : Name → Expr → Bool
 occurs n (con v) = false
 occurs n (var x) = isScalar n x
 occurs n (read a i) = isArray n a || occurs n i
 occurs n (bin o l r) = occurs n l || occurs n r
 
--- scalar numbers below v, array numbers below a
+-- every scalar number is below the count of scalars, every array number below that of arrays
 unfoldable pub known : ℕ → ℕ → Expr → Bool
-known v a (con x) = true
-known v a (var x) = ltb x v
-known v a (read n i) = ltb n a && known v a i
-known v a (bin o l r) = known v a l && known v a r
+known scalars arrays (con v) = true
+known scalars arrays (var x) = ltb x scalars
+known scalars arrays (read a i) = ltb a arrays && known scalars arrays i
+known scalars arrays (bin o l r) = known scalars arrays l && known scalars arrays r
+
+-- the name is one of so many scalars and arrays
+abbrev pub There : ℕ → ℕ → Name → Type 0
+There scalars arrays (scalar x) = x < scalars
+There scalars arrays (array a) = a < arrays
+
+-- two stores are the same at the cells of a name: those of an array are the ones that an index can reach
+abbrev pub Same : Name → Arrays → List ℤ → List ℤ → Type 0
+Same (scalar x) arrays σ τ = getD σ x (pos 0) ≡ getD τ x (pos 0)
+Same (array a) arrays σ τ = (i : ℕ) → i < getD (arrays .lengths) a 0 → getD σ (getD (arrays .starts) a 0 + i) (pos 0) ≡ getD τ (getD (arrays .starts) a 0 + i) (pos 0)

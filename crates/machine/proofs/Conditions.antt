@@ -10,33 +10,33 @@ use lib.IntN.{ℤ, pos, negsuc}
 use native.Mathlib.Omega.{arith}
 use borrow.Author.Tests.{ltb-true, ltb-false, lt-ltb, le-ltb, eq-eqb, eqb-true}
 use Rattle.values.specs.Values.{isTrue}
-use Rattle.expr.specs.Tree.{Expr, Fault, zeroDivisor as byZero, badIndex as outside, Worth, is, stop, eval}
+use Rattle.expr.specs.Tree.{Expr, Fault, byZero, badIndex as outside, Worth, value, stop, eval}
 use Rattle.program.specs.Records.{Target, cell, entry, Record, names, begin, end, set, if, else, fi, from, loop, until, call, uncall, skip}
 use Rattle.program.specs.Trees.{Tree}
 use Rattle.machine.specs.Edges.{Frame, inThen, inElse, inDo, inLoop, called}
 use Rattle.machine.specs.Places.{Dir, down, up, opp, calls}
-use Rattle.machine.specs.Step.{Reason, atEnd, wrongValue, zeroDivisor, badIndex, tooDeep, Answer, ok, no, bind, Store, arraysOf, reasonOf, answered, evaluated, holds, element, cellOf, assigned, Act, assigns, moves, chooses, closes, opens, tests, enters, returns, nothing, act, wanted, again}
+use Rattle.machine.specs.Step.{Reason, atEnd, wrongValue, zeroDivisor, badIndex, tooDeep, Answer, ok, no, bind, Store, layout, reasonOf, answered, evaluated, holds, element, cellOf, assigned, Act, assigns, moves, chooses, closes, opens, tests, enters, returns, nothing, act, wanted, again}
 use Rattle.machine.specs.Reasons.{AtEnd, end-down, begin-up, TooDeep, at-call, at-uncall, Misses, Faults, in-if, in-fi, in-from, in-until, in-set, in-index, index, in-entry, Closes, fi-down, if-up, Opens, from-down, until-up, Wrong, then-false, else-true, outside-false, again-true, Meets}
 use Rattle.machine.proofs.Why.{ok-no, no-no, Refuses}
 
 -- ---- an evaluation that stops, and one that gives a value
 module _ (τ : Tree) (σ : Store) where
   abbrev Stops : Expr → Reason → Type 0
-  Stops e r = (f : Fault) × (eval (arraysOf τ) σ e ≡ stop f) × (reasonOf f ≡ r)
+  Stops e r = (f : Fault) × (eval (layout τ) σ e ≡ stop f) × (reasonOf f ≡ r)
 
   stops : (e : Expr) (r : Reason) → evaluated τ σ e ≡ no r → Stops e r
   unfolding evaluated
-  stops e r h = go′ (eval (arraysOf τ) σ e) refl h
+  stops e r h = go′ (eval (layout τ) σ e) refl h
     where
-      go′ : (w : Worth) → eval (arraysOf τ) σ e ≡ w → answered w ≡ no r → Stops e r
-      go′ (is v) q h = ok-no v r h
+      go′ : (w : Worth) → eval (layout τ) σ e ≡ w → answered w ≡ no r → Stops e r
+      go′ (value v) q h = ok-no v r h
       go′ (stop f) q h = (f, q, no-no h)
 
-  pub evaluated-is : (e : Expr) (v : ℤ) → eval (arraysOf τ) σ e ≡ is v → evaluated τ σ e ≡ ok v
+  pub evaluated-is : (e : Expr) (v : ℤ) → eval (layout τ) σ e ≡ value v → evaluated τ σ e ≡ ok v
   unfolding evaluated
   evaluated-is e v q = ap answered q
 
-  evaluated-stop : (e : Expr) (f : Fault) → eval (arraysOf τ) σ e ≡ stop f → evaluated τ σ e ≡ no (reasonOf f)
+  evaluated-stop : (e : Expr) (f : Fault) → eval (layout τ) σ e ≡ stop f → evaluated τ σ e ≡ no (reasonOf f)
   unfolding evaluated
   evaluated-stop e f q = ap answered q
 
@@ -48,20 +48,20 @@ module _ (τ : Tree) (σ : Store) where
       go′ (ok v) q h = ok-no (isTrue v) r h
       go′ (no r′) q h = stops e r (q ∙ ap no (no-no h))
 
-  holds-ok : (e : Expr) (b : Bool) → holds τ σ e ≡ ok b → (v : ℤ) × (eval (arraysOf τ) σ e ≡ is v) × (isTrue v ≡ b)
+  holds-ok : (e : Expr) (b : Bool) → holds τ σ e ≡ ok b → (v : ℤ) × (eval (layout τ) σ e ≡ value v) × (isTrue v ≡ b)
   unfolding holds bind evaluated
-  holds-ok e b h = go′ (eval (arraysOf τ) σ e) refl h
+  holds-ok e b h = go′ (eval (layout τ) σ e) refl h
     where
-      go′ : (w : Worth) → eval (arraysOf τ) σ e ≡ w → bind (answered w) (λ v. ok (isTrue v)) ≡ ok b
-          → (v : ℤ) × (eval (arraysOf τ) σ e ≡ is v) × (isTrue v ≡ b)
-      go′ (is v) q h = (v, q, cc)
+      go′ : (w : Worth) → eval (layout τ) σ e ≡ w → bind (answered w) (λ v. ok (isTrue v)) ≡ ok b
+          → (v : ℤ) × (eval (layout τ) σ e ≡ value v) × (isTrue v ≡ b)
+      go′ (value v) q h = (v, q, cc)
       go′ (stop f) q h = ok-no b (reasonOf f) (sym h)
 
-  holds-is : (e : Expr) (v : ℤ) → eval (arraysOf τ) σ e ≡ is v → holds τ σ e ≡ ok (isTrue v)
+  holds-is : (e : Expr) (v : ℤ) → eval (layout τ) σ e ≡ value v → holds τ σ e ≡ ok (isTrue v)
   unfolding holds bind
   holds-is e v q = rw (evaluated-is e v q)
 
-  holds-stop : (e : Expr) (f : Fault) → eval (arraysOf τ) σ e ≡ stop f → holds τ σ e ≡ no (reasonOf f)
+  holds-stop : (e : Expr) (f : Fault) → eval (layout τ) σ e ≡ stop f → holds τ σ e ≡ no (reasonOf f)
   unfolding holds bind
   holds-stop e f q = rw (evaluated-stop e f q)
 
@@ -72,7 +72,7 @@ module _ (τ : Tree) (σ : Store) where
   missed : (a : ℕ) (v : ℤ) (r : Reason) → element τ a v ≡ no r → Misses τ a v × (badIndex ≡ r)
   missed a (pos i) r h = go′ (ltb i (getD (τ .lengths) a 0)) refl h
     where
-      go′ : (b : Bool) → ltb i (getD (τ .lengths) a 0) ≡ b → cond b (ok (getD (arraysOf τ .starts) a 0 + i)) (no badIndex) ≡ no r
+      go′ : (b : Bool) → ltb i (getD (τ .lengths) a 0) ≡ b → cond b (ok (getD (layout τ .starts) a 0 + i)) (no badIndex) ≡ no r
           → Misses τ a (pos i) × (badIndex ≡ r)
       go′ true q h = ok-no _ r h
       go′ false q h = let k : getD (τ .lengths) a 0 ≤ i = ltb-false _ _ q in (λ l. omega arith, no-no h)
@@ -81,7 +81,7 @@ module _ (τ : Tree) (σ : Store) where
   hit : (a : ℕ) (v : ℤ) (c : ℕ) → element τ a v ≡ ok c → Misses τ a v → ⊥
   hit a (pos i) c h m = m (ltb-true _ _ (go′ (ltb i (getD (τ .lengths) a 0)) h))
     where
-      go′ : (b : Bool) → cond b (ok (getD (arraysOf τ .starts) a 0 + i)) (no badIndex) ≡ ok c → b ≡ true
+      go′ : (b : Bool) → cond b (ok (getD (layout τ .starts) a 0 + i)) (no badIndex) ≡ ok c → b ≡ true
       go′ true h = refl
       go′ false h = ok-no c badIndex (sym h)
   hit a (negsuc i) c h m = ok-no c badIndex (sym h)
@@ -89,7 +89,7 @@ module _ (τ : Tree) (σ : Store) where
   misses-no : (a : ℕ) (v : ℤ) → Misses τ a v → element τ a v ≡ no badIndex
   misses-no a (pos i) m = go′ (ltb i (getD (τ .lengths) a 0)) refl
     where
-      go′ : (b : Bool) → ltb i (getD (τ .lengths) a 0) ≡ b → cond b (ok (getD (arraysOf τ .starts) a 0 + i)) (no badIndex) ≡ no badIndex
+      go′ : (b : Bool) → ltb i (getD (τ .lengths) a 0) ≡ b → cond b (ok (getD (layout τ .starts) a 0 + i)) (no badIndex) ≡ no badIndex
       go′ true q = absurd (m (ltb-true _ _ q))
       go′ false q = refl
   misses-no a (negsuc i) m = refl
@@ -113,15 +113,15 @@ module _ (τ : Tree) (σ : Store) where
   set-no : (o : ℕ) (x : Target) (e : Expr) (d : Dir) (r : Reason) → assigned τ o x e d σ ≡ no r → SetStops o x e r
   unfolding assigned cellOf bind
   set-no o (cell x) e d r h = let s = last-no e _ r h in (s .0, in-set (s .1), s .2)
-  set-no o (entry a i) e d r h = go′ (eval (arraysOf τ) σ i) refl
+  set-no o (entry a i) e d r h = go′ (eval (layout τ) σ i) refl
     where
-      given : (v : ℤ) → eval (arraysOf τ) σ i ≡ is v → (c : Answer ℕ) → element τ a v ≡ c → SetStops o (entry a i) e r
+      given : (v : ℤ) → eval (layout τ) σ i ≡ value v → (c : Answer ℕ) → element τ a v ≡ c → SetStops o (entry a i) e r
       given v q (ok c) k =
           let s = last-no e _ r (rw (evaluated-is i v q, k) at h) in (s .0, in-entry q (hit a v c k) (s .1), s .2)
       given v q (no r′) k =
           let m = missed a v r′ k in let n : r′ ≡ r = no-no (rw (evaluated-is i v q, k) at h) in (outside, index q (m .0), m .1 ∙ n)
-      go′ : (w : Worth) → eval (arraysOf τ) σ i ≡ w → SetStops o (entry a i) e r
-      go′ (is v) q = given v q (element τ a v) refl
+      go′ : (w : Worth) → eval (layout τ) σ i ≡ w → SetStops o (entry a i) e r
+      go′ (value v) q = given v q (element τ a v) refl
       go′ (stop f) q = (f, in-index q, no-no (rw (evaluated-stop i f q) at h))
 
   set-faults : (o : ℕ) (x : Target) (e : Expr) (d : Dir) (f : Fault) → Faults τ σ (set o x e) f → assigned τ o x e d σ ≡ no (reasonOf f)
@@ -184,7 +184,7 @@ module _ (τ : Tree) (σ : Store) (h : ℕ) (fs : List Frame) where
   fault-meets ρ d byZero r k e = subst (Meets τ σ h fs ρ d) e k
   fault-meets ρ d outside r k e = subst (Meets τ σ h fs ρ d) e k
 
-  closes-meets : (ρ : Record) (d : Dir) (e : Expr) (r : Reason) → Closes ρ d e → ((f : Fault) → eval (arraysOf τ) σ e ≡ stop f → Faults τ σ ρ f) → Branch fs
+  closes-meets : (ρ : Record) (d : Dir) (e : Expr) (r : Reason) → Closes ρ d e → ((f : Fault) → eval (layout τ) σ e ≡ stop f → Faults τ σ ρ f) → Branch fs
       → (holds τ σ e ≡ no r) ⊎ ((holds τ σ e ≡ ok (not (wanted fs))) × (r ≡ wrongValue)) → Meets τ σ h fs ρ d r
   closes-meets ρ d e r c k b (inl n) = let s = holds-no τ σ e r n in fault-meets ρ d (s .0) r (k (s .0) (s .1)) (s .2)
   closes-meets ρ d e r c k (l, F, inl q) (inr n) =
@@ -192,7 +192,7 @@ module _ (τ : Tree) (σ : Store) (h : ℕ) (fs : List Frame) where
   closes-meets ρ d e r c k (l, F, inr q) (inr n) =
       let s = holds-ok τ σ e (not (wanted fs)) (n .0) in subst⁻¹ (Meets τ σ h fs ρ d) (n .1) (else-true c q (s .1) (s .2 ∙ rw q))
 
-  opens-meets : (ρ : Record) (d : Dir) (e : Expr) (r : Reason) → Opens ρ d e → ((f : Fault) → eval (arraysOf τ) σ e ≡ stop f → Faults τ σ ρ f)
+  opens-meets : (ρ : Record) (d : Dir) (e : Expr) (r : Reason) → Opens ρ d e → ((f : Fault) → eval (layout τ) σ e ≡ stop f → Faults τ σ ρ f)
       → (holds τ σ e ≡ no r) ⊎ ((holds τ σ e ≡ ok (again h fs)) × (r ≡ wrongValue)) → Meets τ σ h fs ρ d r
   opens-meets ρ d e r c k (inl n) = let s = holds-no τ σ e r n in fault-meets ρ d (s .0) r (k (s .0) (s .1)) (s .2)
   opens-meets ρ d e r c k (inr n) = subst⁻¹ (Meets τ σ h fs ρ d) (n .1) (go′ (again h fs) refl)
@@ -203,7 +203,7 @@ module _ (τ : Tree) (σ : Store) (h : ℕ) (fs : List Frame) where
           let s = holds-ok τ σ e (again h fs) (n .0) in
           outside-false c (λ F i. let t = eq-eqb h h refl in let x : again h fs ≡ true = rw i t in let z : _≡_ {A = ℕ} 0 1 = cc in omega arith) (s .1) (s .2 ∙ q)
 
-  plain-meets : (ρ : Record) (d : Dir) (e : Expr) (r : Reason) → ((f : Fault) → eval (arraysOf τ) σ e ≡ stop f → Faults τ σ ρ f) → holds τ σ e ≡ no r → Meets τ σ h fs ρ d r
+  plain-meets : (ρ : Record) (d : Dir) (e : Expr) (r : Reason) → ((f : Fault) → eval (layout τ) σ e ≡ stop f → Faults τ σ ρ f) → holds τ σ e ≡ no r → Meets τ σ h fs ρ d r
   plain-meets ρ d e r k n = let s = holds-no τ σ e r n in fault-meets ρ d (s .0) r (k (s .0) (s .1)) (s .2)
 
   pub refuses-meets : (ρ : Record) (d : Dir) (r : Reason) → Shape (act ρ h d) fs → calls fs ≤ 64 → Refuses τ (act ρ h d) d fs σ r → Meets τ σ h fs ρ d r

@@ -3,7 +3,7 @@ use Prim.Native.Nat.{ℕ, zero, suc}
 use mathlib.Core.List.{List, [], _∷_}
 use mathlib.Core.Path.{_≡_, refl}
 use lib.IntN.{ℤ, pos}
-use Rattle.expr.specs.Tree.{Expr, con, var, bin, eval, apply}
+use Rattle.expr.specs.Tree.{Expr, con, var, bin, eval}
 use Rattle.program.specs.Records.{Target, cell}
 use Rattle.program.specs.Trees.{Tree, Stmt, setS, skipS, callS, fromS, Block, one, _then_, recordsOf, recordsP, recordsB, recordsS}
 use Rattle.machine.specs.Labels.{sizeS, sizeB, headsS, headsB, headsP, beginFrom, endFrom}

@@ -7,13 +7,13 @@ use mathlib.Core.Path.{_≡_}
 use lib.ListN.{getD}
 use lib.IntN.{ℤ, pos, negsuc}
 use Rattle.values.specs.Values.{isTrue}
-use Rattle.expr.specs.Tree.{Expr, Fault, zeroDivisor as byZero, badIndex as outside, is, stop, eval}
+use Rattle.expr.specs.Tree.{Expr, Fault, byZero, badIndex as outside, value, stop, eval}
 use Rattle.program.specs.Records.{cell, entry, Record, begin, end, set, if, fi, from, until, call, uncall}
 use Rattle.program.specs.Trees.{Tree}
 use Rattle.machine.specs.Labels.{at, head}
 use Rattle.machine.specs.Edges.{Frame, inThen, inElse, inLoop}
 use Rattle.machine.specs.Places.{Dir, down, up, Place, calls}
-use Rattle.machine.specs.Step.{Reason, atEnd, wrongValue, zeroDivisor, badIndex, tooDeep, Store, arraysOf}
+use Rattle.machine.specs.Step.{Reason, atEnd, wrongValue, zeroDivisor, badIndex, tooDeep, Store, layout}
 
 -- 30: "END down or BEGIN up of main, no call left"
 pub data AtEnd (fs : List Frame) : Record → Dir → Type 0 where
@@ -32,15 +32,15 @@ Misses t a (negsuc i) = Unit {0}
 
 -- 32 and 33: what first goes wrong when a record's expressions are evaluated; "an array's index is evaluated and tested first, then the expression".
 pub data Faults (t : Tree) (σ : Store) : Record → Fault → Type 0 where
-  in-if : {e : Expr} {f : Fault} → eval (arraysOf t) σ e ≡ stop f → Faults t σ (if e) f
-  in-fi : {e : Expr} {f : Fault} → eval (arraysOf t) σ e ≡ stop f → Faults t σ (fi e) f
-  in-from : {e : Expr} {f : Fault} → eval (arraysOf t) σ e ≡ stop f → Faults t σ (from e) f
-  in-until : {e : Expr} {f : Fault} → eval (arraysOf t) σ e ≡ stop f → Faults t σ (until e) f
-  in-set : {o x : ℕ} {e : Expr} {f : Fault} → eval (arraysOf t) σ e ≡ stop f → Faults t σ (set o (cell x) e) f
-  in-index : {o a : ℕ} {i e : Expr} {f : Fault} → eval (arraysOf t) σ i ≡ stop f → Faults t σ (set o (entry a i) e) f
-  index : {o a : ℕ} {i e : Expr} {v : ℤ} → eval (arraysOf t) σ i ≡ is v → Misses t a v → Faults t σ (set o (entry a i) e) outside
-  in-entry : {o a : ℕ} {i e : Expr} {v : ℤ} {f : Fault} → eval (arraysOf t) σ i ≡ is v → (Misses t a v → ⊥)
-      → eval (arraysOf t) σ e ≡ stop f → Faults t σ (set o (entry a i) e) f
+  in-if : {e : Expr} {f : Fault} → eval (layout t) σ e ≡ stop f → Faults t σ (if e) f
+  in-fi : {e : Expr} {f : Fault} → eval (layout t) σ e ≡ stop f → Faults t σ (fi e) f
+  in-from : {e : Expr} {f : Fault} → eval (layout t) σ e ≡ stop f → Faults t σ (from e) f
+  in-until : {e : Expr} {f : Fault} → eval (layout t) σ e ≡ stop f → Faults t σ (until e) f
+  in-set : {o x : ℕ} {e : Expr} {f : Fault} → eval (layout t) σ e ≡ stop f → Faults t σ (set o (cell x) e) f
+  in-index : {o a : ℕ} {i e : Expr} {f : Fault} → eval (layout t) σ i ≡ stop f → Faults t σ (set o (entry a i) e) f
+  index : {o a : ℕ} {i e : Expr} {v : ℤ} → eval (layout t) σ i ≡ value v → Misses t a v → Faults t σ (set o (entry a i) e) outside
+  in-entry : {o a : ℕ} {i e : Expr} {v : ℤ} {f : Fault} → eval (layout t) σ i ≡ value v → (Misses t a v → ⊥)
+      → eval (layout t) σ e ≡ stop f → Faults t σ (set o (entry a i) e) f
 
 -- The record closes, or opens, in this direction, by this expression.
 pub data Closes : Record → Dir → Expr → Type 0 where
@@ -55,13 +55,13 @@ pub data Opens : Record → Dir → Expr → Type 0 where
 -- `h` is the label of the record's IF or FROM.
 pub data Wrong (t : Tree) (σ : Store) (h : ℕ) (fs : List Frame) : Record → Dir → Type 0 where
   then-false : {ρ : Record} {d : Dir} {e : Expr} {v : ℤ} {l : ℕ} {F : List Frame} → Closes ρ d e → fs ≡ inThen l ∷ F
-      → eval (arraysOf t) σ e ≡ is v → isTrue v ≡ false → Wrong t σ h fs ρ d
+      → eval (layout t) σ e ≡ value v → isTrue v ≡ false → Wrong t σ h fs ρ d
   else-true : {ρ : Record} {d : Dir} {e : Expr} {v : ℤ} {l : ℕ} {F : List Frame} → Closes ρ d e → fs ≡ inElse l ∷ F
-      → eval (arraysOf t) σ e ≡ is v → isTrue v ≡ true → Wrong t σ h fs ρ d
+      → eval (layout t) σ e ≡ value v → isTrue v ≡ true → Wrong t σ h fs ρ d
   outside-false : {ρ : Record} {d : Dir} {e : Expr} {v : ℤ} → Opens ρ d e → ((F : List Frame) → fs ≡ inLoop h ∷ F → ⊥)
-      → eval (arraysOf t) σ e ≡ is v → isTrue v ≡ false → Wrong t σ h fs ρ d
+      → eval (layout t) σ e ≡ value v → isTrue v ≡ false → Wrong t σ h fs ρ d
   again-true : {ρ : Record} {d : Dir} {e : Expr} {v : ℤ} {F : List Frame} → Opens ρ d e → fs ≡ inLoop h ∷ F
-      → eval (arraysOf t) σ e ≡ is v → isTrue v ≡ true → Wrong t σ h fs ρ d
+      → eval (layout t) σ e ≡ value v → isTrue v ≡ true → Wrong t σ h fs ρ d
 
 -- The condition of each reason, of the record that is met at a place.
 abbrev pub Meets : Tree → Store → (h : ℕ) → List Frame → Record → Dir → Reason → Type 0

@@ -9,7 +9,7 @@ use lib.IntN.{ℤ, pos, negsuc, _+ℤ_, _-ℤ_}
 use mir.Syntax.{w32}
 use mir.Val.{SFits}
 use Rattle.values.specs.Values.{wrap, xorZ, isTrue}
-use Rattle.expr.specs.Tree.{Expr, Arrays, Fault, zeroDivisor as byZero, badIndex as outside, Worth, is, stop, eval}
+use Rattle.expr.specs.Tree.{Expr, Arrays, Fault, byZero, badIndex as outside, Worth, value, stop, eval}
 use Rattle.program.specs.Records.{Target, cell, entry, Record, names, begin, end, set, if, else, fi, from, loop, until, call, uncall, skip, kind}
 use Rattle.program.specs.Trees.{Tree, cells}
 use Rattle.machine.specs.Labels.{at, head}
@@ -45,12 +45,13 @@ pub record Sized (t : Tree) (σ : Store) : Type 0 where
   pub size : length σ ≡ cells t
   pub range : (i : ℕ) → SFits w32 (getD σ i (pos 0))
 
+-- Where the arrays stand among the cells.
 unfoldable pub startsFrom : ℕ → List ℕ → List ℕ
 startsFrom n [] = []
 startsFrom n (l ∷ ls) = n ∷ startsFrom (n + l) ls
 
-abbrev pub arraysOf : Tree → Arrays
-arraysOf t = record { starts = startsFrom (t .scalars) (t .lengths); lengths = t .lengths }
+abbrev pub layout : Tree → Arrays
+layout t = record { starts = startsFrom (t .scalars) (t .lengths); lengths = t .lengths }
 
 -- The value of an expression, and its truth; what stops an evaluation is a reason.
 abbrev pub reasonOf : Fault → Reason
@@ -58,11 +59,11 @@ reasonOf byZero = zeroDivisor
 reasonOf outside = badIndex
 
 abbrev pub answered : Worth → Answer ℤ
-answered (is v) = ok v
+answered (value v) = ok v
 answered (stop f) = no (reasonOf f)
 
 unfoldable pub evaluated : Tree → Store → Expr → Answer ℤ
-evaluated t σ e = answered (eval (arraysOf t) σ e)
+evaluated t σ e = answered (eval (layout t) σ e)
 
 unfoldable pub holds : Tree → Store → Expr → Answer Bool
 holds t σ e = bind (evaluated t σ e) (λ v. ok (isTrue v))
@@ -81,7 +82,7 @@ operator (suc (suc o)) up = suc (suc o)
 
 -- "An array's index is evaluated and tested first, then the expression."
 abbrev pub element : Tree → ℕ → ℤ → Answer ℕ
-element t a (pos i) = cond (ltb i (getD (t .lengths) a 0)) (ok (getD (arraysOf t .starts) a 0 + i)) (no badIndex)
+element t a (pos i) = cond (ltb i (getD (t .lengths) a 0)) (ok (getD (layout t .starts) a 0 + i)) (no badIndex)
 element t a (negsuc i) = no badIndex
 
 unfoldable pub cellOf : Tree → Store → Target → Answer ℕ

@@ -5,7 +5,8 @@ use mathlib.Core.Bool.{Bool, true, false, cond, _&&_, _||_}
 use mathlib.Core.Path.{_≡_}
 use lib.ListN.{length}
 use lib.Dec.{ltb, eqb}
-use Rattle.expr.specs.Tree.{Expr, Valid, depth, encode, known, occurs, scalar, array, bytes16}
+use Rattle.codes.specs.Codes.{bytes16}
+use Rattle.expr.specs.Tree.{Expr, Valid, depth, encode, known, occurs, scalar, array}
 
 -- "u8 target (0 scalar, 1 array), u16 number, for an array its index expression"
 pub data Target : Type 0 where

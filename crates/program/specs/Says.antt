@@ -5,7 +5,7 @@ use mathlib.Core.Logic.{_⊎_}
 use mathlib.Core.Path.{_≡_}
 use mathlib.Core.Bool.{Bool, true, false, not}
 use lib.ListN.{length, take, getD}
-use Rattle.expr.specs.Tree.{bytes16}
+use Rattle.codes.specs.Codes.{bytes16}
 use Rattle.program.specs.Records.{Record, skip, encodeRecord, bytesOf, Formed, InSize, FineFrom, begins, there, own}
 use Rattle.program.specs.Trees.{Tree, recordsOf, procedures, cells, Ordered, Viable}
 use Rattle.program.specs.declared.Checked.{Checked}

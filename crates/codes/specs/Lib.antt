@@ -1,0 +1,2 @@
+-- The definitions of `codes`.
+pub mod Codes

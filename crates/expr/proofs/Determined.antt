@@ -1,0 +1,24 @@
+-- For each public function: any two outcomes that its contract permits are equal. `Post κs a r s` is the contract
+-- as the check reads it: of the arguments a, the answer r and what each argument holds afterwards, s.
+-- Assumes nothing.
+use mathlib.Core.Path.{_≡_, sym, _∙_}
+use contract.Lifetimes.{Lfts}
+use Rattle.expr.proofs.expression_end.Reads as expression-end
+use Rattle.expr.proofs.worth.Reads as worth
+use Rattle.expr.proofs.mentions.Reads as mentions
+use Rattle.expr.proofs.names_known.Reads as names-known
+
+module _ (κs : Lfts 1) where
+  pub expression-end-determined : (a : _) (r r′ : _) (s s′ : _) → expression-end.Post κs a r s → expression-end.Post κs a r′ s′ → r ≡ r′
+  expression-end-determined a r r′ s s′ p q = p ∙ sym q
+
+  pub mentions-determined : (a : _) (r r′ : _) (s s′ : _) → mentions.Post κs a r s → mentions.Post κs a r′ s′ → r ≡ r′
+  mentions-determined a r r′ s s′ p q = p ∙ sym q
+
+  pub names-known-determined : (a : _) (r r′ : _) (s s′ : _) → names-known.Post κs a r s → names-known.Post κs a r′ s′ → r ≡ r′
+  names-known-determined a r r′ s s′ p q = p ∙ sym q
+
+-- the answer, and the position afterwards
+pub worth-determined : (κs : Lfts 4) (a : _) (r r′ : _) (s s′ : _) → worth.Post κs a r s → worth.Post κs a r′ s′
+    → (r ≡ r′) × (s .1 .0 .now ≡ s′ .1 .0 .now)
+worth-determined κs a r r′ s s′ p q = (p .answer ∙ sym (q .answer), p .place ∙ sym (q .place))

@@ -1,0 +1,95 @@
+-- What each function answers. Assumes nothing: these are definitions.
+use Prim.Native.Nat.{ℕ, _+_, _^_, _≤_}
+use mathlib.Core.Path.{_≡_}
+use mathlib.Core.List.{List}
+use mathlib.Core.Bool.{Bool, true, false, cond}
+use lib.Dec.{eqb}
+use lib.IntN.{ℤ, pos, negsuc}
+use lib.ListN.{take, drop}
+use lib.Dec.{ltb}
+use mir.Syntax.{w32}
+use mir.Val.{SFits}
+use Rattle.expr.specs.Tree.{Expr, depth, Valid, Arrays, Fault, byZero, badIndex, Worth, value, stop, eval, indexed, Name, scalar, array, occurs, known}
+use Rattle.expr.specs.Bytes.{Stands, Got}
+use Rattle.expr.specs.declared.End.{End}
+use Rattle.expr.specs.declared.End.the-variants.{At, Bad}
+use Rattle.expr.specs.declared.Seen.{Seen}
+use Rattle.expr.specs.declared.Known.{Known}
+
+-- ---- `expression_end`
+abbrev pub pickEnd : Bool → ℕ → End
+pickEnd true n = At n
+pickEnd false n = Bad
+
+abbrev pub endOf : Got → End
+endOf g = pickEnd (g .ok) (g .next)
+
+-- At n exactly where some tree of at most depth d stands there and ends at n; Bad where none does
+unfoldable pub EndSays : List ℕ → ℕ → ℕ → End → Type 0
+EndSays s at d (At n) = (e : Expr) × (Valid e × ((depth e ≤ d) × Stands s at e n))
+EndSays s at d Bad = (e : Expr) (n : ℕ) → Valid e → depth e ≤ d → Stands s at e n → ⊥
+
+-- ---- `worth`: one number, the value itself, which is an i32, or 2^32 and the document's number, which is not
+abbrev pub faultNumber : Fault → ℕ
+faultNumber byZero = 32
+faultNumber badIndex = 33
+
+abbrev pub packedWorth : Worth → ℤ
+packedWorth (value v) = v
+packedWorth (stop f) = pos (2 ^ 32 + faultNumber f)
+
+-- what such a number means
+abbrev pub unpacked : ℤ → Worth
+unpacked (pos n) = cond (ltb n (2 ^ 31)) (value (pos n)) (cond (eqb n (2 ^ 32 + 32)) (stop byZero) (stop badIndex))
+unpacked (negsuc n) = value (negsuc n)
+
+-- a value fits a cell
+abbrev pub InCell : Worth → Type 0
+InCell (value v) = SFits w32 v
+InCell (stop f) = Unit {0}
+
+-- the position afterwards: behind the expression where there is a value, else where it was
+abbrev pub movedTo : Worth → ℕ → ℕ → ℕ
+movedTo (value v) at next = next
+movedTo (stop f) at next = at
+
+-- `arrays` holds the 16 starts, then the 16 lengths
+abbrev pub arraysOf : List ℕ → Arrays
+arraysOf l = record { starts = take 16 l; lengths = take 16 (drop 16 l) }
+
+-- what the tree is worth
+abbrev pub worthAt : List ℕ → List ℤ → Got → Worth
+worthAt arrays cells g = eval (arraysOf arrays) cells (g .tree)
+
+-- what array a is worth at the index that the tree says
+abbrev pub readAt : List ℕ → List ℤ → ℕ → Got → Worth
+readAt arrays cells a g = indexed (arraysOf arrays) cells a (worthAt arrays cells g)
+
+-- the answer r for a worth w
+pub record Packs (w : Worth) (r : ℤ) : Type 0 where
+  pub answer : r ≡ packedWorth w
+  pub range : InCell w
+
+-- the answer r for a tree that is worth w, read at `at` and ending at `next`, and the position afterwards
+pub record WorthSays (w : Worth) (at next : ℕ) (r : ℤ) (after : ℕ) : Type 0 where
+  pub answer : r ≡ packedWorth w
+  pub range : InCell w
+  pub place : after ≡ movedTo w at next
+
+-- the same on the way, where a refusal may leave the position anywhere
+pub record OnTheWay (w : Worth) (next : ℕ) (r : ℤ) (after : ℕ) : Type 0 where
+  pub answer : r ≡ packedWorth w
+  pub range : InCell w
+  pub place : after ≡ movedTo w after next
+
+-- ---- `mentions`
+abbrev pub nameOf : Bool → ℕ → Name
+nameOf true n = array n
+nameOf false n = scalar n
+
+abbrev pub seenOf : Name → Got → Seen
+seenOf n g = record { found = occurs n (g .tree); next = g .next }
+
+-- ---- `names_known`
+abbrev pub knownOf : ℕ → ℕ → Got → Known
+knownOf scalars arrays g = record { ok = known scalars arrays (g .tree); next = g .next }
