@@ -16,4 +16,5 @@ pub mod Runs
 pub mod Why
 pub mod Conditions
 pub mod Refusals
+pub mod Assign
 pub mod Lines
