@@ -17,4 +17,6 @@ pub mod Why
 pub mod Conditions
 pub mod Refusals
 pub mod Assign
+pub mod Accepted
+pub mod Theorems
 pub mod Lines
