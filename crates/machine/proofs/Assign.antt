@@ -193,8 +193,9 @@ module _ (τ : Tree) where
       let value′ = sym (eval-kept (nameOf x) c own σ y e te (own-right x e f)) ∙ s .value-is in
       let there : c < length σ = omega (arith, so .size) in
       let back : put (put σ c y) c (applied (operator o (opp d)) (getD (put σ c y) c (pos 0)) v) ≡ σ =
-            set-set σ c y _ ∙ (ap (put σ c) (ap (λ u. applied (operator o (opp d)) u v) (getD-set-same σ c y (pos 0) there) ∙ applied-back o d z v (so .range c) fits)
-            ∙ set-getD σ c (pos 0)) in
-      (subst (Sized τ) (s .store-is) size,
-       subst (λ k. bind (cellOf τ k x) (λ c. bind (evaluated τ k e) (λ v. ok (put k c (applied (operator o (opp d)) (getD k c (pos 0)) v)))) ≡ ok σ) (s .store-is)
-         (rw (cell′, value′) (ap ok back)))
+      set-set σ c y _ ∙ (ap (put σ c) (ap (λ u. applied (operator o (opp d)) u v) (getD-set-same σ c y (pos 0) there) ∙ applied-back o d z v (so .range c) fits)
+      ∙ set-getD σ c (pos 0)) in (
+        subst (Sized τ) (s .store-is) size,
+        subst (λ k. bind (cellOf τ k x) (λ c. bind (evaluated τ k e) (λ v. ok (put k c (applied (operator o (opp d)) (getD k c (pos 0)) v)))) ≡ ok σ) (s .store-is)
+            (rw (cell′, value′) (ap ok back)),
+      )

@@ -120,6 +120,7 @@ module _ (τ : Tree) (σ : Store) where
           let s = last-no e _ r (rw (evaluated-is i v q, k) at h) in (s .0, in-entry q (hit a v c k) (s .1), s .2)
       given v q (no r′) k =
           let m = missed a v r′ k in let n : r′ ≡ r = no-no (rw (evaluated-is i v q, k) at h) in (outside, index q (m .0), m .1 ∙ n)
+
       go′ : (w : Worth) → eval (layout τ) σ i ≡ w → SetStops o (entry a i) e r
       go′ (value v) q = given v q (element τ a v) refl
       go′ (stop f) q = (f, in-index q, no-no (rw (evaluated-stop i f q) at h))

@@ -90,7 +90,7 @@ pub record Span (P : Prog) (c : Con) : Type 0 where
   pub pos : 0 < c .l
   pub l<m : c .l < c .m
   pub m<r : c .m < c .r
-  pub in-l : onto (P .at (suc (c .l))) (suc (c .l)) ≡ suc (c .l)   -- no branch is empty
+  pub in-l : onto (P .at (suc (c .l))) (suc (c .l)) ≡ suc (c .l)  -- no branch is empty
   pub in-m : onto (P .at (suc (c .m))) (suc (c .m)) ≡ suc (c .m)
   pub near : (q x : ℕ) → c .l ≤ x → x ≤ c .r → P .first q ≤ x → x ≤ P .last q → (P .first q < c .l) × (c .r < P .last q)
 

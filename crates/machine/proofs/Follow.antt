@@ -66,7 +66,7 @@ ahead-is (e ∷ es) e₀ d m f = go′ (matches e (near e₀ d) d (e₀ .within)
     go′ false h (List·Memᴰ·tail m) ih = ih m
     go′ false h (List·Memᴰ·head q) ih =
         let y : matches e (near e₀ d) d (e₀ .within) ≡ true =
-              subst (λ x. matches x (near e₀ d) d (e₀ .within) ≡ true) q (rw (eq-eqb (near e₀ d) (near e₀ d) refl) (same-refl (e₀ .within))) in
+        subst (λ x. matches x (near e₀ d) d (e₀ .within) ≡ true) q (rw (eq-eqb (near e₀ d) (near e₀ d) refl) (same-refl (e₀ .within))) in
         absurd (let z : _≡_ {A = ℕ} 0 1 = cc in let x : ⊥ = omega arith in x)
 
 -- ---- how a label stands at the upper end and at the lower end of a gap
@@ -178,10 +178,11 @@ ahead-gap τ w q g d lo hi =
   where
     P : Prog
     P = prog τ
+
     only : (e : Edge) → List·Memᴰ e (edges τ) → near e d ≡ near (gapAt P q g) d → e .within ≡ P .encl g → far e d ≡ far (gapAt P q g) d
     only e m n k =
         let r = on-edge τ e m in
         let z : r .g ≡ g = one-gap τ P w d (r .g) g
-              (sym (near-gap P (e .proc) (r .g) d) ∙ (ap (λ x. near x d) (sym (r .is)) ∙ (n ∙ near-gap P q g d)))
-              (ap (λ x. x .within) (sym (r .is)) ∙ k) in
+        (sym (near-gap P (e .proc) (r .g) d) ∙ (ap (λ x. near x d) (sym (r .is)) ∙ (n ∙ near-gap P q g d)))
+        (ap (λ x. x .within) (sym (r .is)) ∙ k) in
         ap (λ x. far x d) (r .is) ∙ (far-gap P (e .proc) (r .g) d ∙ (ap (λ x. tip P x d) z ∙ sym (far-gap P q g d)))

@@ -82,7 +82,7 @@ module _ (P : Prog) where
   last-edge q s F n z h tz =
       let j = size-pos s in
       ap (λ k. k ∷ []) (gap-is q (exit s n) F (exit s n) z (ends s F n h) (exit-is s F n h)
-        (rw (let y : suc (pred (n + sizeS s)) ≡ n + sizeS s = omega arith in y) tz))
+      (rw (let y : suc (pred (n + sizeS s)) ≡ n + sizeS s = omega arith in y) tz))
 
   mutual
     unfolding edgesS sizeS rowsS
@@ -95,32 +95,37 @@ module _ (P : Prog) where
     edges-areS (ifS e s t e′) q F n h =
         let k = holds-around P n (sizeB s) (sizeB t) _ _ _ _ _ (lengthB s _ _) (lengthB t _ _) h in
         ap₂ _++_ (edges-areB s q (inThen n ∷ F) n (suc n) _ (k .left) (omega arith) (k .en-l) (rw (k .at-l)) (rw (k .at-m)))
-          (edges-areB t q (inElse n ∷ F) n (suc (suc n + sizeB s)) _ (k .right) (omega arith) (k .en-m) (rw (k .at-m)) (rw (k .at-r)))
-        ∙ (rw (let z : sizeB s + suc (sizeB t + 1) ≡ suc (sizeB s) + suc (sizeB t) = omega arith in z,
-            gaps-append q (suc (sizeB s)) (suc (sizeB t)) n, let z : n + suc (sizeB s) ≡ suc n + sizeB s = omega arith in z))
+        (edges-areB t q (inElse n ∷ F) n (suc (suc n + sizeB s)) _ (k .right) (omega arith) (k .en-m) (rw (k .at-m)) (rw (k .at-r)))
+        ∙ (rw (
+          let z : sizeB s + suc (sizeB t + 1) ≡ suc (sizeB s) + suc (sizeB t) = omega arith in z,
+          gaps-append q (suc (sizeB s)) (suc (sizeB t)) n,
+          let z : n + suc (sizeB s) ≡ suc n + sizeB s = omega arith in z,
+        ))
     edges-areS (fromS e s t e′) q F n h =
         let k = holds-around P n (sizeB s) (sizeB t) _ _ _ _ _ (lengthB s _ _) (lengthB t _ _) h in
         ap₂ _++_ (edges-areB s q (inDo n ∷ F) n (suc n) _ (k .left) (omega arith) (k .en-l) (rw (k .at-l)) (rw (k .at-m)))
-          (edges-areB t q (inLoop n ∷ F) _ (suc (suc n + sizeB s)) n (k .right) (omega arith) (k .en-m) (rw (k .at-m)) (rw (k .at-r)))
-        ∙ (rw (let z : sizeB s + suc (sizeB t + 1) ≡ suc (sizeB s) + suc (sizeB t) = omega arith in z,
-            gaps-append q (suc (sizeB s)) (suc (sizeB t)) n, let z : n + suc (sizeB s) ≡ suc n + sizeB s = omega arith in z))
+        (edges-areB t q (inLoop n ∷ F) _ (suc (suc n + sizeB s)) n (k .right) (omega arith) (k .en-m) (rw (k .at-m)) (rw (k .at-r)))
+        ∙ (rw (
+          let z : sizeB s + suc (sizeB t + 1) ≡ suc (sizeB s) + suc (sizeB t) = omega arith in z,
+          gaps-append q (suc (sizeB s)) (suc (sizeB t)) n,
+          let z : n + suc (sizeB s) ≡ suc n + sizeB s = omega arith in z,
+        ))
 
     pub edges-areB : (b : Block) (q : ℕ) (F : List Frame) (a n z : ℕ) → Holds P n (rowsB b F n) → 0 < n → P .encl (pred n) ≡ F → tip P (pred n) up ≡ a
         → onto (P .at (n + sizeB b)) (n + sizeB b) ≡ z → edgesB b q F a n z ≡ gaps q (suc (sizeB b)) (pred n)
     edges-areB (one s) q F a n z h p en ta tz =
         let i = suc-pred-eq-of-pos p in
         ap₂ _∷_ (gap-is q (pred n) F a n en ta (rw i (entry-is P s F n h)))
-          (join q s n 0 _ _ (edges-areS s q F n h) (last-edge q s F n z h tz) ∙ rw (i, let y : sizeS s + 0 ≡ sizeS s = omega arith in y))
+        (join q s n 0 _ _ (edges-areS s q F n h) (last-edge q s F n z h tz) ∙ rw (i, let y : sizeS s + 0 ≡ sizeS s = omega arith in y))
     edges-areB (_then_ s b) q F a n z h p en ta tz =
         let i = suc-pred-eq-of-pos p in
         let hs = holds-left P n (rowsS s F n) (rowsB b F (n + sizeS s)) h in
         let hb = holds-right P n (sizeS s) (rowsS s F n) (rowsB b F (n + sizeS s)) (lengthS s F n) h in
         ap₂ _∷_ (gap-is q (pred n) F a n en ta (rw i (entry-is P s F n hs)))
-          (join q s n (sizeB b) _ _ (edges-areS s q F n hs)
-            (edges-areB b q F (exit s n) (n + sizeS s) z hb (omega arith) (ends s F n hs) (exit-is s F n hs)
-              (rw (let y : n + sizeS s + sizeB b ≡ n + (sizeS s + sizeB b) = omega arith in y) tz))
-          ∙ rw i)
-
+        (join q s n (sizeB b) _ _ (edges-areS s q F n hs)
+        (edges-areB b q F (exit s n) (n + sizeS s) z hb (omega arith) (ends s F n hs) (exit-is s F n hs)
+        (rw (let y : n + sizeS s + sizeB b ≡ n + (sizeS s + sizeB b) = omega arith in y) tz))
+        ∙ rw i)
 
   pub in-gaps : (q k g : ℕ) (e : Edge) → List·Memᴰ e (gaps q k g) → (x : ℕ) × (g ≤ x) × (x < g + k) × (e ≡ gapAt q x)
   in-gaps q zero g e h = absurd (List·Memᴰ·not-nil h)
@@ -148,7 +153,7 @@ module _ (τ : Tree) (P : Prog) where
   block-edges b bs n q₀ s =
       let h = holds-right P (suc n) (sizeB b) (rowsB b [] (suc n)) _ (lengthB b [] (suc n)) (s .holds .2) in
       edges-areB P b q₀ [] n (suc n) (suc n + sizeB b) (holds-left P (suc n) (rowsB b [] (suc n)) _ (s .holds .2)) (omega arith) (s .holds .1)
-        (rw (s .holds .0)) (rw (h .0))
+      (rw (s .holds .0)) (rw (h .0))
 
   begins-at : (b : Block) (bs : List Block) (n q₀ : ℕ) → Suffix P (b ∷ bs) n q₀ → (P .first q₀ ≡ n) × (P .last q₀ ≡ suc n + sizeB b)
   unfolding beginFrom endFrom
@@ -160,8 +165,8 @@ module _ (τ : Tree) (P : Prog) where
   gap-of [] n q₀ s e h = absurd (List·Memᴰ·not-nil h)
   gap-of (b ∷ bs) n q₀ s e h =
       ⊎-elim (λ m. here (in-gaps P q₀ (suc (sizeB b)) n e (subst (List·Memᴰ e) (block-edges b bs n q₀ s) m)))
-        (λ m. gap-of bs (suc (suc n + sizeB b)) (suc q₀) (rest τ P b bs n q₀ s) e m)
-        (List·Memᴰ·append-cases (edgesB b q₀ [] n (suc n) (suc n + sizeB b)) h)
+      (λ m. gap-of bs (suc (suc n + sizeB b)) (suc q₀) (rest τ P b bs n q₀ s) e m)
+      (List·Memᴰ·append-cases (edgesB b q₀ [] n (suc n) (suc n + sizeB b)) h)
     where
       here : (x : ℕ) × (n ≤ x) × (x < n + suc (sizeB b)) × (e ≡ gapAt P q₀ x) → Gap P e
       here r =
@@ -181,14 +186,14 @@ module _ (τ : Tree) (P : Prog) where
       let z : q₀ + 0 ≡ q₀ = omega arith in
       let f = ap (P .first) z in let l = ap (P .last) z in
       Memᴰ·append-left _ (subst⁻¹ (List·Memᴰ (gapAt P (q₀ + 0) g)) (block-edges b bs n q₀ s)
-        (subst⁻¹ (λ q. List·Memᴰ (gapAt P q g) (gaps P q₀ (suc (sizeB b)) n)) z
-          (gaps-have P q₀ (suc (sizeB b)) n g (omega (arith, j .0)) (omega (arith, j .1)))))
+      (subst⁻¹ (λ q. List·Memᴰ (gapAt P q g) (gaps P q₀ (suc (sizeB b)) n)) z
+      (gaps-have P q₀ (suc (sizeB b)) n g (omega (arith, j .0)) (omega (arith, j .1)))))
   gap-in (b ∷ bs) n q₀ s (suc k) g a c =
       let z : q₀ + suc k ≡ suc q₀ + k = omega arith in
       let f = ap (P .first) z in let l = ap (P .last) z in
       Memᴰ·append-right (edgesB b q₀ [] n (suc n) (suc n + sizeB b))
-        (subst⁻¹ (λ q. List·Memᴰ (gapAt P q g) (edgesP bs (suc q₀) (suc (suc n + sizeB b)))) z
-          (gap-in bs (suc (suc n + sizeB b)) (suc q₀) (rest τ P b bs n q₀ s) k g (omega arith) (omega arith)))
+      (subst⁻¹ (λ q. List·Memᴰ (gapAt P q g) (edgesP bs (suc q₀) (suc (suc n + sizeB b)))) z
+      (gap-in bs (suc (suc n + sizeB b)) (suc q₀) (rest τ P b bs n q₀ s) k g (omega arith) (omega arith)))
 
 pub on-edge : (τ : Tree) (e : Edge) → List·Memᴰ e (edges τ) → Gap (prog τ) e
 on-edge τ e h = gap-of τ (prog τ) (procedures τ) 1 0 (suffix τ) e h

@@ -16,10 +16,12 @@ use Rattle.machine.specs.Runs.{because, Ran, runBy, run, runBack}
 -- "labels 0 NAMES (2, 0), 1 BEGIN, 2 SET scalar 1 `+=` 3, 3 FROM scalar 0 = 0, 4 SET scalar 0 `+=` 1, 5 LOOP, 6 SKIP, 7 UNTIL scalar 0 = scalar 1, 8 END"
 abbrev counting : Tree
 counting = record {
-  scalars = 2; lengths = [];
+  scalars = 2;
+  lengths = [];
   main = _then_ (setS 0 (cell 1) (con (pos 3)))
-    (one (fromS (bin 12 (var 0) (con (pos 0))) (one (setS 0 (cell 0) (con (pos 1)))) (one skipS) (bin 12 (var 0) (var 1))));
-  others = [] }
+      (one (fromS (bin 12 (var 0) (con (pos 0))) (one (setS 0 (cell 0) (con (pos 1)))) (one skipS) (bin 12 (var 0) (var 1))));
+  others = [];
+}
 
 abbrev last : Place
 last = record { a = 7; b = 8; d = down; frames = [] }

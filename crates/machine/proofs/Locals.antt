@@ -65,8 +65,12 @@ module _ (τ : Tree) (P : Prog) (Q : ℕ → Type 0) (Q→ok : (q : ℕ) → Q q
 
   pub inner : (F : List Frame) (n k : ℕ) → Ctx P F n k → (G : List Frame) (n′ k′ : ℕ) → P .encl (pred n′) ≡ G → n ≤ n′ → k′ ≤ k
       → ((i : ℕ) → n′ ≤ i → again i G ≡ false) → Ctx P G n′ k′
-  inner F n k c G n′ k′ e a b f = record { before = e; pos = let p = c .pos in omega arith; fresh = f;
-    near = λ q x a′ b′ a″ b″. let h = c .near q x (omega arith) (omega arith) a″ b″ in (omega arith, omega arith) }
+  inner F n k c G n′ k′ e a b f = record {
+    before = e;
+    pos = let p = c .pos in omega arith;
+    fresh = f;
+    near = λ q x a′ b′ a″ b″. let h = c .near q x (omega arith) (omega arith) a″ b″ in (omega arith, omega arith);
+  }
 
   -- A label in a construct is one of its three or lies in one of its blocks.
   pub pick5 : (n a b x : ℕ) (L : Type 0) → n ≤ x → x < n + suc (a + suc (b + 1))
@@ -78,10 +82,12 @@ module _ (τ : Tree) (P : Prog) (Q : ℕ → Type 0) (Q→ok : (q : ℕ) → Q q
       go₃ h (inl k) = p₄ h k
       go₃ h (inr (inl k)) = p₅ k
       go₃ h (inr (inr k)) = absurd (let z : ⊥ = omega arith in z)
+
       go₂ : n < x → (x < suc n + a) ⊎ ((x ≡ suc n + a) ⊎ (suc n + a < x)) → L
       go₂ h (inl k) = p₂ h k
       go₂ h (inr (inl k)) = p₃ k
       go₂ h (inr (inr k)) = go₃ k (which x (suc (suc n + a) + b))
+
       go₁ : (x < n) ⊎ ((x ≡ n) ⊎ (n < x)) → L
       go₁ (inl k) = absurd (let z : ⊥ = omega arith in z)
       go₁ (inr (inl k)) = p₁ k
@@ -89,27 +95,49 @@ module _ (τ : Tree) (P : Prog) (Q : ℕ → Type 0) (Q→ok : (q : ℕ) → Q q
 
   pub span : (F : List Frame) (n : ℕ) (e : Expr) (s t : Block) (e′ : Expr) → Ctx P F n (n + suc (sizeB s + suc (sizeB t + 1)))
       → onto (P .at (suc n)) (suc n) ≡ suc n → onto (P .at (suc (suc n + sizeB s))) (suc (suc n + sizeB s)) ≡ suc (suc n + sizeB s) → Span P (con n e s t e′)
-  span F n e s t e′ c il im = record { pos = c .pos; l<m = omega arith; m<r = omega arith; in-l = il; in-m = im;
-    near = λ q x a b a′ b′. let h = c .near q x a (omega arith) a′ b′ in (h .0, omega arith) }
+  span F n e s t e′ c il im = record {
+    pos = c .pos;
+    l<m = omega arith;
+    m<r = omega arith;
+    in-l = il;
+    in-m = im;
+    near = λ q x a b a′ b′. let h = c .near q x a (omega arith) a′ b′ in (h .0, omega arith);
+  }
 
   pub cond-ok : (F : List Frame) (n : ℕ) (e : Expr) (s t : Block) (e′ : Expr) → Holds P n (rowsS (ifS e s t e′) F n)
       → Ctx P F n (n + suc (sizeB s + suc (sizeB t + 1))) → CondOk P (con n e s t e′)
   unfolding sizeS rowsS
   cond-ok F n e s t e′ h c =
       let w = holds-around P n (sizeB s) (sizeB t) _ _ _ _ _ (lengthB s _ _) (lengthB t _ _) h in
-      record { at-l = w .at-l; at-m = w .at-m; at-r = w .at-r;
-        en-l = rw (c .before) (w .en-l); en-m′ = rw (c .before) (endB P s _ _ (w .left)); en-m = rw (c .before) (w .en-m);
-        en-r′ = rw (c .before) (endB P t _ _ (w .right)); en-r = rw (c .before) (w .en-r); span = span F n e s t e′ c (entryB P s _ _ (w .left)) (entryB P t _ _ (w .right)) }
+      record {
+        at-l = w .at-l;
+        at-m = w .at-m;
+        at-r = w .at-r;
+        en-l = rw (c .before) (w .en-l);
+        en-m′ = rw (c .before) (endB P s _ _ (w .left));
+        en-m = rw (c .before) (w .en-m);
+        en-r′ = rw (c .before) (endB P t _ _ (w .right));
+        en-r = rw (c .before) (w .en-r);
+        span = span F n e s t e′ c (entryB P s _ _ (w .left)) (entryB P t _ _ (w .right));
+      }
 
   pub loop-ok : (F : List Frame) (n : ℕ) (e : Expr) (s t : Block) (e′ : Expr) → Holds P n (rowsS (fromS e s t e′) F n)
       → Ctx P F n (n + suc (sizeB s + suc (sizeB t + 1))) → LoopOk P (con n e s t e′)
   unfolding sizeS rowsS
   loop-ok F n e s t e′ h c =
       let w = holds-around P n (sizeB s) (sizeB t) _ _ _ _ _ (lengthB s _ _) (lengthB t _ _) h in
-      record { at-l = w .at-l; at-m = w .at-m; at-r = w .at-r;
-        en-l = rw (c .before) (w .en-l); en-m′ = rw (c .before) (endB P s _ _ (w .left)); en-m = rw (c .before) (w .en-m);
-        en-r′ = rw (c .before) (endB P t _ _ (w .right)); en-r = rw (c .before) (w .en-r);
-        fresh = λ i h. rw (c .before) (c .fresh i h); span = span F n e s t e′ c (entryB P s _ _ (w .left)) (entryB P t _ _ (w .right)) }
+      record {
+        at-l = w .at-l;
+        at-m = w .at-m;
+        at-r = w .at-r;
+        en-l = rw (c .before) (w .en-l);
+        en-m′ = rw (c .before) (endB P s _ _ (w .left));
+        en-m = rw (c .before) (w .en-m);
+        en-r′ = rw (c .before) (endB P t _ _ (w .right));
+        en-r = rw (c .before) (w .en-r);
+        fresh = λ i h. rw (c .before) (c .fresh i h);
+        span = span F n e s t e′ c (entryB P s _ _ (w .left)) (entryB P t _ _ (w .right));
+      }
 
   mutual
     unfolding sizeS rowsS
@@ -124,21 +152,21 @@ module _ (τ : Tree) (P : Prog) (Q : ℕ → Type 0) (Q→ok : (q : ℕ) → Q q
         let w = holds-around P n (sizeB s) (sizeB t) _ _ _ _ _ (lengthB s _ _) (lengthB t _ _) h in
         let k = cond-ok F n e s t e′ h c in
         pick5 n (sizeB s) (sizeB t) x _ a b
-          (λ i. put x n _ i (w .at-l) (refl, k))
-          (λ i′ j′. localB s (inThen n ∷ F) (suc n) (w .left) (f .0) (inner F n _ c _ _ _ (w .en-l) (omega arith) (omega arith) (λ i j. refl)) x i′ j′)
-          (λ i. put x _ _ i (w .at-m) (refl, k))
-          (λ i′ j′. localB t (inElse n ∷ F) (suc (suc n + sizeB s)) (w .right) (f .1) (inner F n _ c _ _ _ (w .en-m) (omega arith) (omega arith) (λ i j. refl)) x i′ j′)
-          (λ i. put x _ _ i (w .at-r) (refl, k))
+        (λ i. put x n _ i (w .at-l) (refl, k))
+        (λ i′ j′. localB s (inThen n ∷ F) (suc n) (w .left) (f .0) (inner F n _ c _ _ _ (w .en-l) (omega arith) (omega arith) (λ i j. refl)) x i′ j′)
+        (λ i. put x _ _ i (w .at-m) (refl, k))
+        (λ i′ j′. localB t (inElse n ∷ F) (suc (suc n + sizeB s)) (w .right) (f .1) (inner F n _ c _ _ _ (w .en-m) (omega arith) (omega arith) (λ i j. refl)) x i′ j′)
+        (λ i. put x _ _ i (w .at-r) (refl, k))
     localS (fromS e s t e′) F n h f c x a b =
         let w = holds-around P n (sizeB s) (sizeB t) _ _ _ _ _ (lengthB s _ _) (lengthB t _ _) h in
         let k = loop-ok F n e s t e′ h c in
         pick5 n (sizeB s) (sizeB t) x _ a b
-          (λ i. put x n _ i (w .at-l) (refl, k))
-          (λ i′ j′. localB s (inDo n ∷ F) (suc n) (w .left) (f .0) (inner F n _ c _ _ _ (w .en-l) (omega arith) (omega arith) (λ i j. refl)) x i′ j′)
-          (λ i. put x _ _ i (w .at-m) (refl, k))
-          (λ i′ j′. localB t (inLoop n ∷ F) (suc (suc n + sizeB s)) (w .right) (f .1)
-            (inner F n _ c _ _ _ (w .en-m) (omega arith) (omega arith) (λ i j. ne-eqb n i (λ z. omega arith))) x i′ j′)
-          (λ i. put x _ _ i (w .at-r) (refl, k))
+        (λ i. put x n _ i (w .at-l) (refl, k))
+        (λ i′ j′. localB s (inDo n ∷ F) (suc n) (w .left) (f .0) (inner F n _ c _ _ _ (w .en-l) (omega arith) (omega arith) (λ i j. refl)) x i′ j′)
+        (λ i. put x _ _ i (w .at-m) (refl, k))
+        (λ i′ j′. localB t (inLoop n ∷ F) (suc (suc n + sizeB s)) (w .right) (f .1)
+        (inner F n _ c _ _ _ (w .en-m) (omega arith) (omega arith) (λ i j. ne-eqb n i (λ z. omega arith))) x i′ j′)
+        (λ i. put x _ _ i (w .at-r) (refl, k))
 
     pub localB : (b : Block) (F : List Frame) (n : ℕ) → Holds P n (rowsB b F n) → FineB b Q (Undoes τ) → Ctx P F n (n + sizeB b)
         → (x : ℕ) → n ≤ x → x < n + sizeB b → Local τ P (P .at x) x
@@ -147,7 +175,6 @@ module _ (τ : Tree) (P : Prog) (Q : ℕ → Type 0) (Q→ok : (q : ℕ) → Q q
         let hs = holds-left P n (rowsS s F n) (rowsB r F (n + sizeS s)) h in
         let hr = holds-right P n (sizeS s) (rowsS s F n) (rowsB r F (n + sizeS s)) (lengthS s F n) h in
         either x (n + sizeS s)
-          (λ k. localS s F n hs (f .0) (inner F n _ c F n (n + sizeS s) (c .before) (omega arith) (omega arith) (c .fresh)) x a k)
-          (λ k. localB r F (n + sizeS s) hr (f .1) (inner F n _ c F (n + sizeS s) (n + sizeS s + sizeB r) (endS P s F n hs) (omega arith) (omega arith)
-            (λ i j. c .fresh i (omega arith))) x k (omega arith))
-
+        (λ k. localS s F n hs (f .0) (inner F n _ c F n (n + sizeS s) (c .before) (omega arith) (omega arith) (c .fresh)) x a k)
+        (λ k. localB r F (n + sizeS s) hr (f .1) (inner F n _ c F (n + sizeS s) (n + sizeS s + sizeB r) (endS P s F n hs) (omega arith) (omega arith)
+        (λ i j. c .fresh i (omega arith))) x k (omega arith))

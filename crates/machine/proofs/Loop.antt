@@ -66,6 +66,7 @@ module _ (τ : Tree) (P : Prog) where
     where
       s : Cut
       s = record { g = g; d = d; cs = cs }
+
       go′ : (v : Answer Bool) → holds τ σ e ≡ v → (w : Bool) → cond w t f ≡ met g d → Undone s σ (bind v (λ v. must (same v w) (leave y d cs, σ)))
       go′ (ok true) h true k = (fy, so, from-left y d cs σ _ hy py ∙ rw (h, k, gap-met g d))
       go′ (ok true) h false k = tt
@@ -190,52 +191,52 @@ module _ (τ : Tree) (P : Prog) where
   by-record g d cs σ so skipL e k F = pass-case g d cs σ so (rw e) (pos1 g d cs F k) (rw e) (fit1 g d cs F k)
   by-record g down cs σ so (ifL c) e (h, k) F =
       hub-case g down cs σ so (c .e₁) (suc g) (c .m) (rw e) (omega arith) (omega arith) (rw e) (rw (k .at-m, h))
-        (fit3 g down cs F c (k .span) (omega arith) (omega arith) (suc g) (omega arith) (omega arith))
-        (fit3 g down cs F c (k .span) (omega arith) (omega arith) (c .m) (omega arith) (omega arith))
+      (fit3 g down cs F c (k .span) (omega arith) (omega arith) (suc g) (omega arith) (omega arith))
+      (fit3 g down cs F c (k .span) (omega arith) (omega arith) (c .m) (omega arith) (omega arith))
   by-record g up cs σ so (ifL c) e (h, k) F =
       arm-case g up cs σ so (c .e₁) true g g (c .m) (rw e) (omega arith) (rw e) refl
-        (fit3 g up cs F c (k .span) (omega arith) (omega arith) g (omega arith) (omega arith))
+      (fit3 g up cs F c (k .span) (omega arith) (omega arith) g (omega arith) (omega arith))
   by-record g down cs σ so (elseL c) e (h, k) F =
       arm-case g down cs σ so (c .e₂) true (c .r) (c .m) (c .r) (rw e) (omega arith) (rw (k .at-r)) (sym h)
-        (fit3 g down cs F c (k .span) (omega arith) (omega arith) (c .r) (omega arith) (omega arith))
+      (fit3 g down cs F c (k .span) (omega arith) (omega arith) (c .r) (omega arith) (omega arith))
   by-record g up cs σ so (elseL c) e (h, k) F =
       arm-case g up cs σ so (c .e₁) false (c .l) (c .l) (c .m) (rw e) (omega arith) (rw (k .at-l)) (sym h)
-        (fit3 g up cs F c (k .span) (omega arith) (omega arith) (c .l) (omega arith) (omega arith))
+      (fit3 g up cs F c (k .span) (omega arith) (omega arith) (c .l) (omega arith) (omega arith))
   by-record g down cs σ so (fiL c) e (h, k) F =
       arm-case g down cs σ so (c .e₂) false (suc g) (c .m) (suc g) (rw e) (omega arith) (rw e) refl
-        (fit3 g down cs F c (k .span) (omega arith) (omega arith) (suc g) (omega arith) (omega arith))
+      (fit3 g down cs F c (k .span) (omega arith) (omega arith) (suc g) (omega arith) (omega arith))
   by-record g up cs σ so (fiL c) e (h, k) F =
       hub-case g up cs σ so (c .e₂) (c .m) g (rw e) (omega arith) (omega arith) (rw (k .at-m, h)) (rw e)
-        (fit3 g up cs F c (k .span) (omega arith) (omega arith) (c .m) (omega arith) (omega arith))
-        (fit3 g up cs F c (k .span) (omega arith) (omega arith) g (omega arith) (omega arith))
+      (fit3 g up cs F c (k .span) (omega arith) (omega arith) (c .m) (omega arith) (omega arith))
+      (fit3 g up cs F c (k .span) (omega arith) (omega arith) g (omega arith) (omega arith))
   by-record g down cs σ so (fromL c) e (h, k) F =
       arm-case g down cs σ so (c .e₁) true (suc g) (suc g) (c .r) (rw e) (omega arith) (rw e) refl
-        (fit3 g down cs F c (k .span) (omega arith) (omega arith) (suc g) (omega arith) (omega arith))
+      (fit3 g down cs F c (k .span) (omega arith) (omega arith) (suc g) (omega arith) (omega arith))
   by-record g up cs σ so (fromL c) e (h, k) F =
       hub-case g up cs σ so (c .e₁) g (c .r) (rw e) (omega arith) (omega arith) (rw e) (rw (k .at-r, h))
-        (fit3 g up cs F c (k .span) (omega arith) (omega arith) g (omega arith) (omega arith))
-        (fit3 g up cs F c (k .span) (omega arith) (omega arith) (c .r) (omega arith) (omega arith))
+      (fit3 g up cs F c (k .span) (omega arith) (omega arith) g (omega arith) (omega arith))
+      (fit3 g up cs F c (k .span) (omega arith) (omega arith) (c .r) (omega arith) (omega arith))
   by-record g down cs σ so (loopL c) e (h, k) F =
       hub-case g down cs σ so (c .e₂) (c .r) (c .m) (rw e) (omega arith) (omega arith) (rw (k .at-r, h)) (rw (k .at-m, h))
-        (fit3 g down cs F c (k .span) (omega arith) (omega arith) (c .r) (omega arith) (omega arith))
-        (fit3 g down cs F c (k .span) (omega arith) (omega arith) (c .m) (omega arith) (omega arith))
+      (fit3 g down cs F c (k .span) (omega arith) (omega arith) (c .r) (omega arith) (omega arith))
+      (fit3 g down cs F c (k .span) (omega arith) (omega arith) (c .m) (omega arith) (omega arith))
   by-record g up cs σ so (loopL c) e (h, k) F =
       arm-case g up cs σ so (c .e₂) false (c .m) (c .r) (c .m) (rw e) (omega arith) (rw (k .at-m)) (sym h)
-        (fit3 g up cs F c (k .span) (omega arith) (omega arith) (c .m) (omega arith) (omega arith))
+      (fit3 g up cs F c (k .span) (omega arith) (omega arith) (c .m) (omega arith) (omega arith))
   by-record g down cs σ so (untilL c) e (h, k) F =
       arm-case g down cs σ so (c .e₁) false (c .l) (c .l) (c .r) (rw e) (omega arith) (rw (k .at-l)) (sym h)
-        (fit3 g down cs F c (k .span) (omega arith) (omega arith) (c .l) (omega arith) (omega arith))
+      (fit3 g down cs F c (k .span) (omega arith) (omega arith) (c .l) (omega arith) (omega arith))
   by-record g up cs σ so (untilL c) e (h, k) F =
       arm-case g up cs σ so (c .e₂) true (c .m) (c .r) (c .m) (rw e) (omega arith) (rw (k .at-m)) (sym h)
-        (fit3 g up cs F c (k .span) (omega arith) (omega arith) (c .m) (omega arith) (omega arith))
+      (fit3 g up cs F c (k .span) (omega arith) (omega arith) (c .m) (omega arith) (omega arith))
   by-record g d cs σ so (callL q) e (k, o) F =
       let n = o .near (F .q) (lo-met g d cs F) (hi-met g d cs F) in
       enter-case g d cs σ so q d (rw e) (gate-pos q k d) (gate-back q k d) (rw e)
-        (λ h. fit-gate q k (met g d ∷ cs) (by-call e (n .0) (n .1) (F .good)) h d)
+      (λ h. fit-gate q k (met g d ∷ cs) (by-call e (n .0) (n .1) (F .good)) h d)
   by-record g d cs σ so (uncallL q) e (k, o) F =
       let n = o .near (F .q) (lo-met g d cs F) (hi-met g d cs F) in
       enter-case g d cs σ so q (opp d) (rw e) (gate-pos q k (opp d)) (gate-back q k (opp d)) (rw (e, opp-opp))
-        (λ h. fit-gate q k (met g d ∷ cs) (by-uncall e (n .0) (n .1) (F .good)) h (opp d))
+      (λ h. fit-gate q k (met g d ∷ cs) (by-uncall e (n .0) (n .1) (F .good)) h (opp d))
 
   pub undone : Wf τ P → (s : Cut) → Sits P s → (σ : Store) → Sized τ σ → Undone s σ (cstep τ P s σ)
   undone w s F σ so = by-record (s .g) (s .d) (s .cs) σ so (P .at (met (s .g) (s .d))) refl (w .here (met (s .g) (s .d))) F

@@ -138,9 +138,15 @@ module _ (τ : Tree) (w : Wf τ (prog τ)) where
   -- Every cut that sits in the program is a place that fits.
   pub cut-fits : (s : Cut) → Sits P s → Fits τ (view P s)
   cut-fits s F = record {
-    edge = gapAt P (F .q) (s .g); outside = stack P (s .cs); on = edge-on τ (F .q) (s .g) (F .lo) (F .hi);
-    from = near-is (F .q) (s .g) (s .d); to = far-is (F .q) (s .g) (s .d); framed = refl; outer = outer-of (F .good);
-    few = omega (arith, calls-stack τ w (s .g) (s .cs), F .few) }
+    edge = gapAt P (F .q) (s .g);
+    outside = stack P (s .cs);
+    on = edge-on τ (F .q) (s .g) (F .lo) (F .hi);
+    from = near-is (F .q) (s .g) (s .d);
+    to = far-is (F .q) (s .g) (s .d);
+    framed = refl;
+    outer = outer-of (F .good);
+    few = omega (arith, calls-stack τ w (s .g) (s .cs), F .few);
+  }
 
   pub placed-fits : (p : Place) → Placed τ p → Fits τ p
   placed-fits p f = subst⁻¹ (Fits τ) (f .is) (cut-fits (f .cut) (f .sits))
@@ -153,9 +159,11 @@ module _ (τ : Tree) (w : Wf τ (prog τ)) where
       let a : p .a ≡ tip P (t .g) (opp (p .d)) = sym (f .from) ∙ (ap (λ x. near x (p .d)) (t .is) ∙ near-is _ (t .g) (p .d)) in
       let b : p .b ≡ tip P (t .g) (p .d) = sym (f .to) ∙ (ap (λ x. far x (p .d)) (t .is) ∙ far-is _ (t .g) (p .d)) in
       let z : p .frames ≡ P .encl (t .g) ++ stack P (r .0) = f .framed ∙ ap₂ _++_ (ap (λ x. x .within) (t .is)) (r .2) in
-      record { cut = record { g = t .g; d = p .d; cs = r .0 };
+      record {
+        cut = record { g = t .g; d = p .d; cs = r .0 };
         sits = record { q = f .edge .proc; lo = t .lo; hi = t .hi; good = r .1; few = omega (arith, calls-stack τ w (t .g) (r .0), ap calls z, f .few) };
-        is = λ i. record { a = a i; b = b i; d = p .d; frames = z i } }
+        is = λ i. record { a = a i; b = b i; d = p .d; frames = z i };
+      }
 
   -- What follows a on the edge of a fitting place is b, and nothing else: the definition finds it, and no other label could stand there.
   pub follows : (p : Place) → Fits τ p → after τ (p .a) (p .d) (p .frames) ≡ p
@@ -163,8 +171,8 @@ module _ (τ : Tree) (w : Wf τ (prog τ)) where
   follows p f =
       let k = fits-placed p f in let s = k .cut in
       let b : ahead (edges τ) (tip P (s .g) (opp (s .d))) (s .d) (inner (P .encl (s .g) ++ stack P (s .cs))) ≡ tip P (s .g) (s .d) =
-            ap (ahead (edges τ) (tip P (s .g) (opp (s .d))) (s .d)) (inner-stack P (P .encl (s .g)) (s .cs) (w .plain (s .g)))
-            ∙ ahead-gap τ w (k .sits .q) (s .g) (s .d) (k .sits .lo) (k .sits .hi) in
+      ap (ahead (edges τ) (tip P (s .g) (opp (s .d))) (s .d)) (inner-stack P (P .encl (s .g)) (s .cs) (w .plain (s .g)))
+      ∙ ahead-gap τ w (k .sits .q) (s .g) (s .d) (k .sits .lo) (k .sits .hi) in
       subst⁻¹ (λ p. after τ (p .a) (p .d) (p .frames) ≡ p) (k .is) (λ i. record { a = view P s .a; b = b i; d = s .d; frames = view P s .frames })
 
   pub follows-unique : (p p′ : Place) → Fits τ p → Fits τ p′ → p .a ≡ p′ .a → p .d ≡ p′ .d → p .frames ≡ p′ .frames → p ≡ p′

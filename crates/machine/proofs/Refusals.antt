@@ -74,7 +74,7 @@ module _ (τ : Tree) (w : Wf τ (prog τ)) where
   shape-fits p f =
       let k = fits-placed τ w p f in let s = k .cut in
       subst⁻¹ (λ k. Shape (act (at τ (k .b)) (head τ (k .b)) (k .d)) (k .frames)) (k .is)
-        (shape (s .g) (s .d) (s .cs) _ refl (w .here (met (s .g) (s .d))) (k .sits))
+      (shape (s .g) (s .d) (s .cs) _ refl (w .here (met (s .g) (s .d))) (k .sits))
 
   -- The step answers r exactly if r's condition holds.
   pub refused : (p : Place) → Fits τ p → (σ : Store) (r : Reason) → step τ p σ ≡ no r ↔ Condition τ p σ r

@@ -44,11 +44,11 @@ unfoldable mutual
   rowsS (ifS e s t e′) F n =
       let c = con n e s t e′ in
       around (row (ifL c) (inThen n ∷ F)) (rowsB s (inThen n ∷ F) (suc n))
-        (row (elseL c) (inElse n ∷ F)) (rowsB t (inElse n ∷ F) (suc (c .m))) (row (fiL c) F)
+      (row (elseL c) (inElse n ∷ F)) (rowsB t (inElse n ∷ F) (suc (c .m))) (row (fiL c) F)
   rowsS (fromS e s t e′) F n =
       let c = con n e s t e′ in
       around (row (fromL c) (inDo n ∷ F)) (rowsB s (inDo n ∷ F) (suc n))
-        (row (loopL c) (inLoop n ∷ F)) (rowsB t (inLoop n ∷ F) (suc (c .m))) (row (untilL c) F)
+      (row (loopL c) (inLoop n ∷ F)) (rowsB t (inLoop n ∷ F) (suc (c .m))) (row (untilL c) F)
 
   pub rowsB : Block → List Frame → ℕ → List Row
   rowsB (one s) F n = rowsS s F n
@@ -102,8 +102,16 @@ unfolding around
 holds-around P n a b x R y S z ha hb h =
     let h₂ = holds-right P (suc n) a R _ ha (h .2) in
     let h₃ = holds-right P (suc (suc n + a)) b S _ hb (h₂ .2) in
-    record { at-l = h .0; en-l = h .1; left = holds-left P (suc n) R _ (h .2); at-m = h₂ .0; en-m = h₂ .1;
-      right = holds-left P (suc (suc n + a)) S _ (h₂ .2); at-r = h₃ .0; en-r = h₃ .1 }
+    record {
+      at-l = h .0;
+      en-l = h .1;
+      left = holds-left P (suc n) R _ (h .2);
+      at-m = h₂ .0;
+      en-m = h₂ .1;
+      right = holds-left P (suc (suc n + a)) S _ (h₂ .2);
+      at-r = h₃ .0;
+      en-r = h₃ .1;
+    }
 
 module _ (P : Prog) where
   pub entry-is : (s : Stmt) (F : List Frame) (n : ℕ) → Holds P n (rowsS s F n) → onto (P .at n) n ≡ n
@@ -119,7 +127,6 @@ module _ (P : Prog) where
   unfolding rowsS
   entryB (one s) F n h = entry-is s F n h
   entryB (_then_ s b) F n h = entry-is s F n (holds-left P n (rowsS s F n) (rowsB b F (n + sizeS s)) h)
-
 
   mutual
     unfolding sizeS rowsS
@@ -140,8 +147,7 @@ module _ (P : Prog) where
     endB (one s) F n h = endS s F n h
     endB (_then_ s b) F n h =
         rw (let z : n + (sizeS s + sizeB b) ≡ (n + sizeS s) + sizeB b = omega arith in z)
-          (endB b F (n + sizeS s) (holds-right P n (sizeS s) (rowsS s F n) (rowsB b F (n + sizeS s)) (lengthS s F n) h))
-
+        (endB b F (n + sizeS s) (holds-right P n (sizeS s) (rowsS s F n) (rowsB b F (n + sizeS s)) (lengthS s F n) h))
 
 -- The whole file: NAMES, then BEGIN s END for each procedure.
 unfoldable pub rowsP : List Block → ℕ → ℕ → List Row
@@ -195,4 +201,3 @@ pub plain-getD : (R : List Row) (x : ℕ) → Plain R → calls ((getD R x noRow
 plain-getD [] x h = refl
 plain-getD (ρ ∷ R) zero h = h .0
 plain-getD (ρ ∷ R) (suc x) h = plain-getD R x (h .1)
-

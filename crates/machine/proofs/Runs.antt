@@ -82,7 +82,7 @@ module _ (s : Step) where
 
   pub run-more : (n m : ℕ) (p : Place) (σ : Store) → runBy s n p σ .stop ≡ made
       → let r = runBy s m (runBy s n p σ .place) (runBy s n p σ .store) in
-        runBy s (n + m) p σ ≡ record { steps = n + r .steps; place = r .place; store = r .store; stop = r .stop }
+      runBy s (n + m) p σ ≡ record { steps = n + r .steps; place = r .place; store = r .store; stop = r .stop }
   run-more n m p σ e =
       let h = made-steps n p σ (runBy s n p σ) (run-is n p σ) e .0 in
       let p₁ = runBy s n p σ .place in let σ₁ = runBy s n p σ .store in

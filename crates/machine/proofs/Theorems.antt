@@ -104,7 +104,7 @@ module _ (t : Tree) where
 
   pub run-more : (n m : ℕ) (p : Place) (σ : Store) → run t n p σ .stop ≡ made
       → let r = run t m (run t n p σ .place) (run t n p σ .store) in
-        run t (n + m) p σ ≡ record { steps = n + r .steps; place = r .place; store = r .store; stop = r .stop }
+      run t (n + m) p σ ≡ record { steps = n + r .steps; place = r .place; store = r .store; stop = r .stop }
   run-more = runs.run-more (step t)
 
   pub run-back-is : (n : ℕ) (p : Place) (σ : Store) → IsRun (stepBack t) n p σ (runBack t n p σ)
@@ -115,5 +115,5 @@ module _ (t : Tree) where
 
   pub run-back-more : (n m : ℕ) (p : Place) (σ : Store) → runBack t n p σ .stop ≡ made
       → let r = runBack t m (runBack t n p σ .place) (runBack t n p σ .store) in
-        runBack t (n + m) p σ ≡ record { steps = n + r .steps; place = r .place; store = r .store; stop = r .stop }
+      runBack t (n + m) p σ ≡ record { steps = n + r .steps; place = r .place; store = r .store; stop = r .stop }
   run-back-more = runs.run-more (stepBack t)

@@ -46,11 +46,14 @@ module _ (τ : Tree) (w : Wf τ (prog τ)) where
     where
       s : Cut
       s = f .cut
+
       go′ : (r : Answer (Cut × Store)) → Undone τ P s σ r → Outcome (view P s) σ (seen P r)
-      go′ (ok t) (a, c, b) =
-          (placed-fits τ w _ (record { cut = t .0; sits = a; is = refl }), c,
-           ap (λ k. step τ k (t .1)) (turn-view P (t .0))
-           ∙ (sees τ w (turned (t .0)) (turned-sits P (t .0) a) (t .1) ∙ (ap (seen P) b ∙ ap (λ k. ok (k, σ)) (sym (turn-view P s)))))
+      go′ (ok t) (a, c, b) = (
+        placed-fits τ w _ (record { cut = t .0; sits = a; is = refl }),
+        c,
+        ap (λ k. step τ k (t .1)) (turn-view P (t .0))
+            ∙ (sees τ w (turned (t .0)) (turned-sits P (t .0) a) (t .1) ∙ (ap (seen P) b ∙ ap (λ k. ok (k, σ)) (sym (turn-view P s)))),
+      )
       go′ (no n) u = tt
 
   pub undo : (p : Place) → Fits τ p → (σ : Store) → Sized τ σ → (p′ : Place) (σ′ : Store) → step τ p σ ≡ ok (p′, σ′)
@@ -78,9 +81,11 @@ module _ (τ : Tree) (w : Wf τ (prog τ)) where
   pub forward-undoes : (p : Place) → Fits τ p → (σ : Store) → Sized τ σ → (p′ : Place) (σ′ : Store) → stepBack τ p σ ≡ ok (p′, σ′)
       → Fits τ p′ × Sized τ σ′ × (step τ p′ σ′ ≡ ok (p, σ))
   forward-undoes p f σ so p′ σ′ e =
-      let u = undo (turn p) (turn-fits p f) σ so (turn p′) σ′ (turned-step p σ p′ σ′ e) in
-      (subst (Fits τ) (turn-turn p′) (turn-fits (turn p′) (u .0)), u .1,
-       ap (λ k. step τ k σ′) (sym (turn-turn p′)) ∙ (u .2 ∙ ap (λ k. ok (k, σ)) (turn-turn p)))
+      let u = undo (turn p) (turn-fits p f) σ so (turn p′) σ′ (turned-step p σ p′ σ′ e) in (
+        subst (Fits τ) (turn-turn p′) (turn-fits (turn p′) (u .0)),
+        u .1,
+        ap (λ k. step τ k σ′) (sym (turn-turn p′)) ∙ (u .2 ∙ ap (λ k. ok (k, σ)) (turn-turn p)),
+      )
 
   -- The two starts fit, and going back from them is refused as the end.
   abbrev startCut : Dir → Cut
@@ -98,5 +103,10 @@ module _ (τ : Tree) (w : Wf τ (prog τ)) where
   pub start-refused : (d : Dir) (σ : Store) → stepBack τ (start τ d) σ ≡ no atEnd
   unfolding stepBack bind seen cstep through
   start-refused d σ =
-      rw (start-is d, turn-view P (startCut d), sees τ w (turned (startCut d)) (turned-sits P _ (start-sits d)) σ,
-          met-gap (gateL P 0 d) d (gate-pos τ P 0 (w .main-ok) d), gate-back τ P 0 (w .main-ok) d)
+      rw (
+        start-is d,
+        turn-view P (startCut d),
+        sees τ w (turned (startCut d)) (turned-sits P _ (start-sits d)) σ,
+        met-gap (gateL P 0 d) d (gate-pos τ P 0 (w .main-ok) d),
+        gate-back τ P 0 (w .main-ok) d,
+      )

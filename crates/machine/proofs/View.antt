@@ -172,12 +172,12 @@ module _ (τ : Tree) (w : Wf τ (prog τ)) where
   ret-sim x d q cs σ (by-call {q′ = q′} {c = c} {cs = cs′} ac lo hi o) n =
       let r : resumed (kind (at τ c)) d ≡ d = rw (at-is τ c, ac) in
       ap (λ p. ok (p, σ)) (rw (r, ac) (arrive c c d cs′ _ (fit τ P q′ cs′ o (omega arith) c d lo hi) (omega arith) (rw ac (side-call q c (opp d)))
-        (ap (λ k. k ++ stack P cs′) (encl-gap c d (at-call c q ac)))))
+      (ap (λ k. k ++ stack P cs′) (encl-gap c d (at-call c q ac)))))
   ret-sim x d q cs σ (by-uncall {q′ = q′} {c = c} {cs = cs′} ac lo hi o) n =
       let d′ = opp d in
       let r : resumed (kind (at τ c)) d ≡ opp d = rw (at-is τ c, ac) in
       ap (λ p. ok (p, σ)) (rw (r, ac) (arrive c c d′ cs′ _ (fit τ P q′ cs′ o (omega arith) c d′ lo hi) (omega arith) (rw ac (side-uncall q c (opp d′)))
-        (ap (λ k. k ++ stack P cs′) (encl-gap c d′ (at-uncall c q ac)))))
+      (ap (λ k. k ++ stack P cs′) (encl-gap c d′ (at-uncall c q ac)))))
 
   pub gate-is : (q : ℕ) (d : Dir) → gate τ q d ≡ gateL P q d
   unfolding prog
@@ -209,5 +209,5 @@ module _ (τ : Tree) (w : Wf τ (prog τ)) where
           ≡ seen P (cond b (ok (leave (gateL P q d′) d′ (met g d ∷ cs), σ)) (no tooDeep))
       go′ true h =
           ap (λ p. ok (p, σ)) (ap (λ x. after τ (gate τ q d′) d′ (called (met g d) ∷ (x ++ stack P cs))) (sym (encl-met g d o))
-            ∙ enter-is q d′ k (met g d ∷ cs) (f (ltb-true _ _ h)))
+          ∙ enter-is q d′ k (met g d ∷ cs) (f (ltb-true _ _ h)))
       go′ false h = refl

@@ -24,9 +24,11 @@ use Rattle.machine.proofs.Locals.{FineS, FineB, either, Ctx, put, local
 pub holds-from : (P : Prog) (n : ℕ) (R : List Row) → ((i : ℕ) → P .at (n + i) ≡ (getD R i noRow) .rec) → ((i : ℕ) → P .encl (n + i) ≡ (getD R i noRow) .after)
     → Holds P n R
 holds-from P n [] f g = tt
-holds-from P n (ρ ∷ R) f g =
-    (ap (P .at) (omega arith) ∙ f 0, ap (P .encl) (omega arith) ∙ g 0,
-     holds-from P (suc n) R (λ i. ap (P .at) (omega arith) ∙ f (suc i)) (λ i. ap (P .encl) (omega arith) ∙ g (suc i)))
+holds-from P n (ρ ∷ R) f g = (
+  ap (P .at) (omega arith) ∙ f 0,
+  ap (P .encl) (omega arith) ∙ g 0,
+  holds-from P (suc n) R (λ i. ap (P .at) (omega arith) ∙ f (suc i)) (λ i. ap (P .encl) (omega arith) ∙ g (suc i)),
+)
 
 unfoldable pub pastOf : List Block → ℕ → ℕ
 pastOf [] n = n
@@ -68,8 +70,9 @@ module _ (τ : Tree) (P : Prog) where
     firsts = λ k. ap (P .first) (omega arith) ∙ s .firsts (suc k);
     lasts = λ k. ap (P .last) (omega arith) ∙ s .lasts (suc k);
     older = λ q h. either q q₀ (λ k. omega (arith, s .older q k))
-      (λ k. let l = ap (P .last) (let z : q ≡ q₀ + 0 = omega arith in z) ∙ s .lasts 0 in omega arith);
-    pos = omega arith }
+        (λ k. let l = ap (P .last) (let z : q ≡ q₀ + 0 = omega arith in z) ∙ s .lasts 0 in omega arith);
+    pos = omega arith;
+  }
 
   -- Only the first of them has labels up to its END.
   pub mine : (b : Block) (bs : List Block) (n q₀ : ℕ) → Suffix P (b ∷ bs) n q₀ → (q x : ℕ) → n ≤ x → x ≤ suc n + sizeB b
@@ -93,8 +96,14 @@ module _ (τ : Tree) (P : Prog) where
       let l = ap (P .last) (let z : q₀ ≡ q₀ + 0 = omega arith in z) ∙ s .lasts 0 in
       let h = holds-right P (suc n) (sizeB b) (rowsB b [] (suc n)) _ (lengthB b [] (suc n)) (s .holds .2) in
       let w = holds-left P (suc n) (rowsB b [] (suc n)) _ (s .holds .2) in
-      record { at-first = rw f (s .holds .0); at-last = rw l (h .0); en-first = rw f (s .holds .1);
-        en-last = rw l (endB P b [] (suc n) w); pos = omega (arith, f, s .pos); lt = omega arith }
+      record {
+        at-first = rw f (s .holds .0);
+        at-last = rw l (h .0);
+        en-first = rw f (s .holds .1);
+        en-last = rw l (endB P b [] (suc n) w);
+        pos = omega (arith, f, s .pos);
+        lt = omega arith;
+      }
 
   pub procs : (bs : List Block) (n q₀ : ℕ) → Suffix P bs n q₀ → (k : ℕ) → k < length bs → ProcOk P (q₀ + k)
   procs [] n q₀ s k h = absurd (let z : ⊥ = omega arith in z)
@@ -116,28 +125,33 @@ module _ (τ : Tree) (P : Prog) where
       let fi = ap (P .first) (let z : q₀ ≡ q₀ + 0 = omega arith in z) ∙ s .firsts 0 in
       let la = ap (P .last) (let z : q₀ ≡ q₀ + 0 = omega arith in z) ∙ s .lasts 0 in
       let k = proc b bs n q₀ s in
-      let ctx : Ctx P [] (suc n) (suc n + sizeB b) = record { before = s .holds .1; pos = omega arith; fresh = λ i j. refl;
-            near = λ q y a c a′ c′. let e = mine b bs n q₀ s q y (omega arith) (omega arith) a′ c′ in
-              let e₁ = ap (P .first) e in let e₂ = ap (P .last) e in (omega arith, omega arith) } in
+      let ctx : Ctx P [] (suc n) (suc n + sizeB b) = record {
+        before = s .holds .1;
+        pos = omega arith;
+        fresh = λ i j. refl;
+        near = λ q y a c a′ c′. let e = mine b bs n q₀ s q y (omega arith) (omega arith) a′ c′ in
+            let e₁ = ap (P .first) e in let e₂ = ap (P .last) e in (omega arith, omega arith);
+      } in
       either x (suc n)
-        (λ j. put τ P Q qok x n (beginL q₀) (omega arith) (s .holds .0) (sym fi, k, λ q a c. mine b bs n q₀ s q n (omega arith) (omega arith) a c))
-        (λ j. either x (suc n + sizeB b)
-          (λ i. localB τ P Q qok b [] (suc n) w (f .0) ctx x j i)
-          (λ i. either x (suc (suc n + sizeB b))
-            (λ i′. put τ P Q qok x (suc n + sizeB b) (endL q₀) (omega arith) (h .0)
-              (sym la, k, λ q a c. mine b bs n q₀ s q (suc n + sizeB b) (omega arith) (omega arith) a c))
-            (λ i′. locals Q qok bs (suc (suc n + sizeB b)) (suc q₀) (rest b bs n q₀ s) (f .1) x i′ c)))
+      (λ j. put τ P Q qok x n (beginL q₀) (omega arith) (s .holds .0) (sym fi, k, λ q a c. mine b bs n q₀ s q n (omega arith) (omega arith) a c))
+      (λ j. either x (suc n + sizeB b)
+      (λ i. localB τ P Q qok b [] (suc n) w (f .0) ctx x j i)
+      (λ i. either x (suc (suc n + sizeB b))
+      (λ i′. put τ P Q qok x (suc n + sizeB b) (endL q₀) (omega arith) (h .0)
+      (sym la, k, λ q a c. mine b bs n q₀ s q (suc n + sizeB b) (omega arith) (omega arith) a c))
+      (λ i′. locals Q qok bs (suc (suc n + sizeB b)) (suc q₀) (rest b bs n q₀ s) (f .1) x i′ c)))
 
 -- An accepted program: calls that are there, SETs that can be undone.
 pub suffix : (τ : Tree) → Suffix (prog τ) (procedures τ) 1 0
 unfolding prog rowsOf
 suffix τ = record {
   holds = (holds-from (prog τ) 0 (rowsOf τ) (λ i. ap (λ k. (getD (rowsOf τ) k noRow) .rec) (let z : 0 + i ≡ i = omega arith in z))
-    (λ i. ap (λ k. (getD (rowsOf τ) k noRow) .after) (let z : 0 + i ≡ i = omega arith in z))) .2;
+      (λ i. ap (λ k. (getD (rowsOf τ) k noRow) .after) (let z : 0 + i ≡ i = omega arith in z))) .2;
   firsts = λ k. ap (beginOf τ) (let z : 0 + k ≡ k = omega arith in z);
   lasts = λ k. ap (endOf τ) (let z : 0 + k ≡ k = omega arith in z);
   older = λ q h. absurd (let z : ⊥ = omega arith in z);
-  pos = omega arith }
+  pos = omega arith;
+}
 
 pub proc-there : (τ : Tree) (q : ℕ) → q < length (procedures τ) → ProcOk (prog τ) q
 proc-there τ q h = rw (let z : 0 + q ≡ q = omega arith in z) at (procs τ (prog τ) (procedures τ) 1 0 (suffix τ) q h)
@@ -146,12 +160,13 @@ pub fine-wf : (τ : Tree) → FineP τ (prog τ) (procedures τ) (λ q. q < leng
 unfolding prog rowsOf
 fine-wf τ a = record {
   here = λ x. either x 1
-    (λ h. put τ (prog τ) (λ q. ⊥) (λ q z. absurd z) x 0 (nameL (τ .scalars) (τ .lengths)) (omega arith) refl
+      (λ h. put τ (prog τ) (λ q. ⊥) (λ q z. absurd z) x 0 (nameL (τ .scalars) (τ .lengths)) (omega arith) refl
       (λ q lo hi. let k = in-range (procedures τ) 1 q 0 lo hi in omega arith))
-    (λ h. either x (pastOf (procedures τ) 1)
+      (λ h. either x (pastOf (procedures τ) 1)
       (λ k. locals τ (prog τ) (λ q. q < length (procedures τ)) (proc-there τ) (procedures τ) 1 0 (suffix τ) a x h k)
       (λ k. put τ (prog τ) (λ q. ⊥) (λ q z. absurd z) x x (nameL 0 []) refl
-        (ap (λ k. k .rec) (List·getD-eq-default (rowsOf τ) noRow {n = x} (omega (arith, lengthP (procedures τ) 0 1))))
-        (λ q lo hi. let j = in-range (procedures τ) 1 q x lo hi in omega arith)));
+      (ap (λ k. k .rec) (List·getD-eq-default (rowsOf τ) noRow {n = x} (omega (arith, lengthP (procedures τ) 0 1))))
+      (λ q lo hi. let j = in-range (procedures τ) 1 q x lo hi in omega arith)));
   plain = λ x. plain-getD (rowsOf τ) x (refl, plainP (procedures τ) 0 1);
-  main-ok = proc-there τ 0 (omega arith) }
+  main-ok = proc-there τ 0 (omega arith);
+}
