@@ -20,7 +20,7 @@ use Rattle.expr.proofs.Agree.{eval-keeps, eval-fits}
 use Rattle.program.specs.Records.{Target, cell, entry, PlainTarget, Plain, thereTarget, ownTarget, sum}
 use Rattle.program.specs.Trees.{Tree, cells}
 use Rattle.machine.specs.Places.{Dir, down, up, opp}
-use Rattle.machine.specs.Step.{Reason, Answer, ok, no, bind, Store, Sized, startsFrom, layout, reasonOf, answered, evaluated, applied, operator, element, cellOf, assigned, badIndex}
+use Rattle.machine.specs.Stores.{Reason, Answer, ok, no, bind, Store, Sized, startsFrom, layout, reasonOf, answered, evaluated, applied, operator, entryAt, cellOf, assigned, badIndex}
 use Rattle.machine.proofs.Follow.{and-true}
 use Rattle.machine.proofs.Cuts.{Undoes}
 use Rattle.machine.proofs.Why.{ok-no}
@@ -116,8 +116,8 @@ module _ (τ : Tree) where
   nameOf (cell x) = scalar x
   nameOf (entry a i) = array a
 
-  element-owned : (a : ℕ) (v : ℤ) (c : ℕ) → a < arrays → element τ a v ≡ ok c → Owns (array a) c
-  element-owned a (pos i) c h q = go′ (ltb i (size a)) refl q
+  entry-owned : (a : ℕ) (v : ℤ) (c : ℕ) → a < arrays → entryAt τ a v ≡ ok c → Owns (array a) c
+  entry-owned a (pos i) c h q = go′ (ltb i (size a)) refl q
     where
       go′ : (b : Bool) → ltb i (size a) ≡ b → cond b (ok (start a + i)) (no badIndex) ≡ ok c → Owns (array a) c
       go′ true e q =
@@ -125,15 +125,15 @@ module _ (τ : Tree) where
           let z : start a + i ≡ c = cc in
           (h, omega arith, omega arith)
       go′ false e q = ok-no c badIndex (sym q)
-  element-owned a (negsuc i) c h q = ok-no c badIndex (sym q)
+  entry-owned a (negsuc i) c h q = ok-no c badIndex (sym q)
 
   cell-owned : (σ : Store) (x : Target) (c : ℕ) → thereTarget (τ .scalars) arrays x ≡ true → cellOf τ σ x ≡ ok c → Owns (nameOf x) c
   unfolding cellOf bind
   cell-owned σ (cell x) c t q = let z : x ≡ c = cc in (sym z, ltb-true x (τ .scalars) t)
   cell-owned σ (entry a i) c t q = go′ (evaluated τ σ i) q
     where
-      go′ : (r : Answer ℤ) → bind r (λ v. element τ a v) ≡ ok c → Owns (array a) c
-      go′ (ok v) q = element-owned a v c (ltb-true a arrays (and-true (ltb a arrays) (known (τ .scalars) arrays i) t .0)) q
+      go′ : (r : Answer ℤ) → bind r (λ v. entryAt τ a v) ≡ ok c → Owns (array a) c
+      go′ (ok v) q = entry-owned a v c (ltb-true a arrays (and-true (ltb a arrays) (known (τ .scalars) arrays i) t .0)) q
       go′ (no r) q = ok-no c r (sym q)
 
   either-false : (a b : Bool) → (a || b) ≡ false → (a ≡ false) × (b ≡ false)
@@ -146,7 +146,7 @@ module _ (τ : Tree) where
   unfolding cellOf bind
   cell-kept σ y (cell x) e c o t f = refl
   cell-kept σ y (entry a i) e c o t f =
-      ap (λ r. bind r (λ v. element τ a v)) (eval-kept (array a) c o σ y i (and-true (ltb a arrays) (known (τ .scalars) arrays i) t .1) (either-false (occurs (array a) i) (occurs (array a) e) f .0))
+      ap (λ r. bind r (λ v. entryAt τ a v)) (eval-kept (array a) c o σ y i (and-true (ltb a arrays) (known (τ .scalars) arrays i) t .1) (either-false (occurs (array a) i) (occurs (array a) e) f .0))
 
   own-right : (x : Target) (e : Expr) → ownTarget x e ≡ false → occurs (nameOf x) e ≡ false
   own-right (cell x) e f = f

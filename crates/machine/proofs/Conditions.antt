@@ -15,7 +15,8 @@ use Rattle.program.specs.Records.{Target, cell, entry, Record, names, begin, en
 use Rattle.program.specs.Trees.{Tree}
 use Rattle.machine.specs.Edges.{Frame, inThen, inElse, inDo, inLoop, called}
 use Rattle.machine.specs.Places.{Dir, down, up, opp, calls}
-use Rattle.machine.specs.Step.{Reason, atEnd, wrongValue, zeroDivisor, badIndex, tooDeep, Answer, ok, no, bind, Store, layout, reasonOf, answered, evaluated, holds, element, cellOf, assigned, Act, assigns, moves, chooses, closes, opens, tests, enters, returns, nothing, act, wanted, again}
+use Rattle.machine.specs.Stores.{Reason, atEnd, wrongValue, zeroDivisor, badIndex, tooDeep, Answer, ok, no, bind, Store, layout, reasonOf, answered, evaluated, holds, entryAt, cellOf, assigned}
+use Rattle.machine.specs.Step.{Act, assigns, moves, chooses, closes, opens, tests, enters, returns, nothing, act, wanted, again}
 use Rattle.machine.specs.Reasons.{AtEnd, end-down, begin-up, TooDeep, at-call, at-uncall, Misses, Faults, in-if, in-fi, in-from, in-until, in-set, in-index, index, in-entry, Closes, fi-down, if-up, Opens, from-down, until-up, Wrong, then-false, else-true, outside-false, again-true, Meets}
 use Rattle.machine.proofs.Why.{ok-no, no-no, Refuses}
 
@@ -69,7 +70,7 @@ module _ (τ : Tree) (σ : Store) where
   abbrev SetStops : ℕ → Target → Expr → Reason → Type 0
   SetStops o x e r = (f : Fault) × Faults τ σ (set o x e) f × (reasonOf f ≡ r)
 
-  missed : (a : ℕ) (v : ℤ) (r : Reason) → element τ a v ≡ no r → Misses τ a v × (badIndex ≡ r)
+  missed : (a : ℕ) (v : ℤ) (r : Reason) → entryAt τ a v ≡ no r → Misses τ a v × (badIndex ≡ r)
   missed a (pos i) r h = go′ (ltb i (getD (τ .lengths) a 0)) refl h
     where
       go′ : (b : Bool) → ltb i (getD (τ .lengths) a 0) ≡ b → cond b (ok (getD (layout τ .starts) a 0 + i)) (no badIndex) ≡ no r
@@ -78,7 +79,7 @@ module _ (τ : Tree) (σ : Store) where
       go′ false q h = let k : getD (τ .lengths) a 0 ≤ i = ltb-false _ _ q in (λ l. omega arith, no-no h)
   missed a (negsuc i) r h = (tt, no-no h)
 
-  hit : (a : ℕ) (v : ℤ) (c : ℕ) → element τ a v ≡ ok c → Misses τ a v → ⊥
+  hit : (a : ℕ) (v : ℤ) (c : ℕ) → entryAt τ a v ≡ ok c → Misses τ a v → ⊥
   hit a (pos i) c h m = m (ltb-true _ _ (go′ (ltb i (getD (τ .lengths) a 0)) h))
     where
       go′ : (b : Bool) → cond b (ok (getD (layout τ .starts) a 0 + i)) (no badIndex) ≡ ok c → b ≡ true
@@ -86,7 +87,7 @@ module _ (τ : Tree) (σ : Store) where
       go′ false h = ok-no c badIndex (sym h)
   hit a (negsuc i) c h m = ok-no c badIndex (sym h)
 
-  misses-no : (a : ℕ) (v : ℤ) → Misses τ a v → element τ a v ≡ no badIndex
+  misses-no : (a : ℕ) (v : ℤ) → Misses τ a v → entryAt τ a v ≡ no badIndex
   misses-no a (pos i) m = go′ (ltb i (getD (τ .lengths) a 0)) refl
     where
       go′ : (b : Bool) → ltb i (getD (τ .lengths) a 0) ≡ b → cond b (ok (getD (layout τ .starts) a 0 + i)) (no badIndex) ≡ no badIndex
@@ -94,10 +95,10 @@ module _ (τ : Tree) (σ : Store) where
       go′ false q = refl
   misses-no a (negsuc i) m = refl
 
-  hits-ok : (a : ℕ) (v : ℤ) → (Misses τ a v → ⊥) → (c : ℕ) × (element τ a v ≡ ok c)
-  hits-ok a v f = go′ (element τ a v) refl
+  hits-ok : (a : ℕ) (v : ℤ) → (Misses τ a v → ⊥) → (c : ℕ) × (entryAt τ a v ≡ ok c)
+  hits-ok a v f = go′ (entryAt τ a v) refl
     where
-      go′ : (r : Answer ℕ) → element τ a v ≡ r → (c : ℕ) × (element τ a v ≡ ok c)
+      go′ : (r : Answer ℕ) → entryAt τ a v ≡ r → (c : ℕ) × (entryAt τ a v ≡ ok c)
       go′ (ok c) h = (c, h)
       go′ (no r) h = absurd (f (missed a v r h .0))
 
@@ -115,14 +116,14 @@ module _ (τ : Tree) (σ : Store) where
   set-no o (cell x) e d r h = let s = last-no e _ r h in (s .0, in-set (s .1), s .2)
   set-no o (entry a i) e d r h = go′ (eval (layout τ) σ i) refl
     where
-      given : (v : ℤ) → eval (layout τ) σ i ≡ value v → (c : Answer ℕ) → element τ a v ≡ c → SetStops o (entry a i) e r
+      given : (v : ℤ) → eval (layout τ) σ i ≡ value v → (c : Answer ℕ) → entryAt τ a v ≡ c → SetStops o (entry a i) e r
       given v q (ok c) k =
           let s = last-no e _ r (rw (evaluated-is i v q, k) at h) in (s .0, in-entry q (hit a v c k) (s .1), s .2)
       given v q (no r′) k =
           let m = missed a v r′ k in let n : r′ ≡ r = no-no (rw (evaluated-is i v q, k) at h) in (outside, index q (m .0), m .1 ∙ n)
 
       go′ : (w : Worth) → eval (layout τ) σ i ≡ w → SetStops o (entry a i) e r
-      go′ (value v) q = given v q (element τ a v) refl
+      go′ (value v) q = given v q (entryAt τ a v) refl
       go′ (stop f) q = (f, in-index q, no-no (rw (evaluated-stop i f q) at h))
 
   set-faults : (o : ℕ) (x : Target) (e : Expr) (d : Dir) (f : Fault) → Faults τ σ (set o x e) f → assigned τ o x e d σ ≡ no (reasonOf f)

@@ -10,7 +10,8 @@ use Rattle.program.specs.Trees.{Tree, setS, skipS, callS, fromS, one, _then_, r
 use Rattle.machine.specs.Labels.{sizeS, headsS, headsP, beginFrom, endFrom}
 use Rattle.machine.specs.Edges.{called, edgesS, edgesP}
 use Rattle.machine.specs.Places.{Place, down}
-use Rattle.machine.specs.Step.{atEnd, tooDeep, bind, evaluated, holds, startsFrom, cellOf, assigned, act, ahead, after, returned, perform, step, stepBack, start}
+use Rattle.machine.specs.Stores.{atEnd, tooDeep, bind, evaluated, holds, startsFrom, cellOf, assigned}
+use Rattle.machine.specs.Step.{act, ahead, after, returned, perform, step, stepBack, start}
 use Rattle.machine.specs.Runs.{because, Ran, runBy, run, runBack}
 
 -- "labels 0 NAMES (2, 0), 1 BEGIN, 2 SET scalar 1 `+=` 3, 3 FROM scalar 0 = 0, 4 SET scalar 0 `+=` 1, 5 LOOP, 6 SKIP, 7 UNTIL scalar 0 = scalar 1, 8 END"

@@ -8,7 +8,8 @@ use Rattle.program.specs.Trees.{Tree}
 use Rattle.machine.specs.Labels.{at, head}
 use Rattle.machine.specs.Edges.{Frame, inThen, inElse, called}
 use Rattle.machine.specs.Places.{Dir, down, up, opp, Place, Fits}
-use Rattle.machine.specs.Step.{Reason, Answer, ok, no, Store, Sized, act, perform, step}
+use Rattle.machine.specs.Stores.{Reason, Answer, ok, no, Store, Sized}
+use Rattle.machine.specs.Step.{act, perform, step}
 use Rattle.machine.specs.Reasons.{Condition}
 use Rattle.machine.proofs.Linked.{Con, Rec, nameL, beginL, endL, setL, skipL, ifL, elseL, fiL, fromL, loopL, untilL, callL, uncallL, Prog, forget, headOf, side}
 use Rattle.machine.proofs.Cuts.{Cut, met, Local, Wf, Sits}

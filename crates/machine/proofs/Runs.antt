@@ -5,7 +5,8 @@ use mathlib.Core.List.{List}
 use native.Mathlib.Omega.{arith}
 use Rattle.program.specs.Trees.{Tree}
 use Rattle.machine.specs.Places.{Place, Fits}
-use Rattle.machine.specs.Step.{Answer, ok, no, Store, Sized, Reason, step, stepBack}
+use Rattle.machine.specs.Stores.{Answer, ok, no, Store, Sized, Reason}
+use Rattle.machine.specs.Step.{step, stepBack}
 use Rattle.machine.specs.Runs.{Stop, made, because, Ran, counted, onward, runBy, run, runBack}
 use Rattle.machine.proofs.Cuts.{Wf}
 use Rattle.machine.proofs.Rows.{prog}

@@ -9,7 +9,8 @@ use Rattle.expr.specs.Tree.{Expr}
 use Rattle.program.specs.Trees.{Tree}
 use Rattle.machine.specs.Edges.{Frame, inThen, inElse, inDo, inLoop}
 use Rattle.machine.specs.Places.{Dir, down, up, opp}
-use Rattle.machine.specs.Step.{ok, bind, Store, holds, assigned, act, chooses, closes, opens, tests, after, pop, wanted, again, perform, step}
+use Rattle.machine.specs.Stores.{ok, bind, Store, holds, assigned}
+use Rattle.machine.specs.Step.{act, chooses, closes, opens, tests, after, pop, wanted, again, perform, step}
 use Rattle.machine.proofs.Linked.{Con, Rec, nameL, beginL, endL, setL, skipL, ifL, elseL, fiL, fromL, loopL, untilL, callL, uncallL, Prog}
 use Rattle.machine.proofs.Cuts.{Cut, met, gap, leave, hub, arm, port, through, cstep, Local, Wf, by-call, by-uncall, Sits}
 use Rattle.machine.proofs.Loop.{lo-met, hi-met, fit-gate, not-begin, not-end}

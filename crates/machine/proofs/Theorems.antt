@@ -6,7 +6,8 @@ use mathlib.Core.Logic.{_↔_}
 use Rattle.program.specs.Trees.{Tree}
 use Rattle.program.specs.Says.{Accepts}
 use Rattle.machine.specs.Places.{Dir, Place, turn, Fits}
-use Rattle.machine.specs.Step.{Reason, atEnd, Answer, ok, no, bind, Store, Sized, step, stepBack, start}
+use Rattle.machine.specs.Stores.{Reason, atEnd, Answer, ok, no, bind, Store, Sized}
+use Rattle.machine.specs.Step.{step, stepBack, start}
 use Rattle.machine.specs.Reasons.{Condition}
 use Rattle.machine.specs.Runs.{Wish, walk, Stop, made, because, Ran, runBy, run, runBack}
 use Rattle.machine.proofs.Cuts.{Cut, Sits}

@@ -5,7 +5,8 @@ use mathlib.Core.List.{List, []}
 use native.Mathlib.Omega.{arith}
 use Rattle.program.specs.Trees.{Tree}
 use Rattle.machine.specs.Places.{Dir, down, up, opp, Place, turn, Fits}
-use Rattle.machine.specs.Step.{Answer, ok, no, bind, Store, Sized, Reason, atEnd, step, stepBack, start}
+use Rattle.machine.specs.Stores.{Answer, ok, no, bind, Store, Sized, Reason, atEnd}
+use Rattle.machine.specs.Step.{step, stepBack, start}
 use Rattle.machine.proofs.Linked.{Prog, gateL}
 use Rattle.machine.proofs.Cuts.{Cut, turned, leave, through, cstep, Wf, in-main, Sits}
 use Rattle.machine.proofs.Loop.{met-gap, opp-opp, gate-pos, gate-back, fit-gate, Undone, undone}

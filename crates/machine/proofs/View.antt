@@ -13,7 +13,8 @@ use Rattle.program.specs.Trees.{Tree}
 use Rattle.machine.specs.Labels.{at, head}
 use Rattle.machine.specs.Edges.{Frame, inThen, inElse, inDo, inLoop, called, frameKind, frameLabel, edges}
 use Rattle.machine.specs.Places.{Dir, down, up, opp, Place, calls, gate}
-use Rattle.machine.specs.Step.{Answer, ok, no, bind, Store, holds, assigned, atEnd, tooDeep, act, chooses, closes, opens, tests, enters, inner, ahead, after, pop, wanted, again, same, must, resumed, returned, perform, step}
+use Rattle.machine.specs.Stores.{Answer, ok, no, bind, Store, holds, assigned, atEnd, tooDeep}
+use Rattle.machine.specs.Step.{act, chooses, closes, opens, tests, enters, inner, ahead, after, pop, wanted, again, same, must, resumed, returned, perform, step}
 use Rattle.machine.proofs.Linked.{Con, Rec, nameL, beginL, endL, setL, skipL, ifL, elseL, fiL, fromL, loopL, untilL, callL, uncallL, Prog, forget, headOf, side, gateL, resume}
 use Rattle.machine.proofs.Cuts.{Cut, met, gap, leave, hub, arm, enter′, return′, port, through, cstep, Span, SimpleOk, ProcOk, Local, Wf, Good, in-main, by-call, by-uncall, Sits}
 use Rattle.machine.proofs.Loop.{met-gap, lo-met, hi-met, pos1, gate-pos, fit, fit1, fit3, fit-gate, not-begin, not-end}

@@ -5,7 +5,8 @@ use mathlib.Core.List.{List, [], _∷_}
 use native.Mathlib.Omega.{arith}
 use Rattle.program.specs.Trees.{Tree}
 use Rattle.machine.specs.Places.{Dir, Place, Fits}
-use Rattle.machine.specs.Step.{Answer, ok, no, Store, Sized, Reason, atEnd, step, stepBack, start}
+use Rattle.machine.specs.Stores.{Answer, ok, no, Store, Sized, Reason, atEnd}
+use Rattle.machine.specs.Step.{step, stepBack, start}
 use Rattle.machine.specs.Runs.{Wish, forward, back, try, stayed, walk}
 use Rattle.machine.proofs.Cuts.{Wf}
 use Rattle.machine.proofs.Rows.{prog}

@@ -15,7 +15,8 @@ use Rattle.program.specs.Trees.{Stmt, setS, skipS, callS, uncallS, ifS, fromS, 
 use Rattle.machine.specs.Labels.{sizeS, sizeB, beginFrom, endFrom, beginOf, endOf}
 use Rattle.machine.specs.Edges.{Frame, inThen, inElse, inDo, inLoop, called}
 use Rattle.machine.specs.Places.{Dir, down, up, opp, calls}
-use Rattle.machine.specs.Step.{Answer, ok, no, bind, Store, Sized, holds, assigned, atEnd, wrongValue, tooDeep, again, same, must}
+use Rattle.machine.specs.Stores.{Answer, ok, no, bind, Store, Sized, holds, assigned, atEnd, wrongValue, tooDeep}
+use Rattle.machine.specs.Step.{again, same, must}
 use Rattle.machine.proofs.Linked.{Con, Rec, nameL, beginL, endL, setL, skipL, ifL, elseL, fiL, fromL, loopL, untilL, callL, uncallL, Prog, onto, off, side, gateL, resume}
 use Rattle.machine.proofs.Cuts.{Cut, turned, met, gap, leave, Port, hub, arm, assign′, pass′, enter′, return′, never′, port, through, cstep, Span, CondOk, LoopOk, Undoes, SimpleOk, ProcOk, Local, Wf, Good, in-main, by-call, by-uncall, Sits}
 use Rattle.machine.proofs.Rows.{Row, row, around, con, rowsS, rowsB, lengthS, lengthB, Holds, holds-left, holds-right, Wrapped, holds-around, entry-is, entryB, endS, endB, rowsP, noRow, rowsOf, prog, plain-getD, plainP}

@@ -15,7 +15,8 @@ use Rattle.program.specs.Records.{Target, cell, entry, Record, names, begin, en
 use Rattle.program.specs.Trees.{Tree}
 use Rattle.machine.specs.Edges.{Frame, inThen, inElse, inDo, inLoop, called}
 use Rattle.machine.specs.Places.{Dir, down, up, opp, Place, calls, gate}
-use Rattle.machine.specs.Step.{Reason, atEnd, wrongValue, zeroDivisor, badIndex, tooDeep, Answer, ok, no, bind, Store, layout, reasonOf, answered, evaluated, holds, element, cellOf, assigned, Act, assigns, moves, chooses, closes, opens, tests, enters, returns, nothing, act, after, pop, wanted, again, same, must, returned, perform}
+use Rattle.machine.specs.Stores.{Reason, atEnd, wrongValue, zeroDivisor, badIndex, tooDeep, Answer, ok, no, bind, Store, layout, reasonOf, answered, evaluated, holds, entryAt, cellOf, assigned}
+use Rattle.machine.specs.Step.{Act, assigns, moves, chooses, closes, opens, tests, enters, returns, nothing, act, after, pop, wanted, again, same, must, returned, perform}
 use Rattle.machine.specs.Reasons.{AtEnd, end-down, begin-up, TooDeep, at-call, at-uncall, Misses, Faults, in-if, in-fi, in-from, in-until, in-set, in-index, index, in-entry, Closes, fi-down, if-up, Opens, from-down, until-up, Wrong, then-false, else-true, outside-false, again-true, Meets}
 
 pub ok-no : {A X : Type 0} (a : A) (r : Reason) → _≡_ {A = Answer A} (ok a) (no r) → X

@@ -13,7 +13,7 @@ use Rattle.program.specs.Trees.{Tree}
 use Rattle.machine.specs.Labels.{at, head}
 use Rattle.machine.specs.Edges.{Frame, inThen, inElse, inLoop}
 use Rattle.machine.specs.Places.{Dir, down, up, Place, calls}
-use Rattle.machine.specs.Step.{Reason, atEnd, wrongValue, zeroDivisor, badIndex, tooDeep, Store, layout}
+use Rattle.machine.specs.Stores.{Reason, atEnd, wrongValue, zeroDivisor, badIndex, tooDeep, Store, layout}
 
 -- 30: "END down or BEGIN up of main, no call left"
 pub data AtEnd (fs : List Frame) : Record → Dir → Type 0 where

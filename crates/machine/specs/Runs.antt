@@ -3,7 +3,8 @@ use Prim.Native.Nat.{ℕ, zero, suc}
 use mathlib.Core.List.{List, [], _∷_}
 use Rattle.program.specs.Trees.{Tree}
 use Rattle.machine.specs.Places.{Place}
-use Rattle.machine.specs.Step.{Reason, number, Answer, ok, no, Store, step, stepBack}
+use Rattle.machine.specs.Stores.{Reason, number, Answer, ok, no, Store}
+use Rattle.machine.specs.Step.{step, stepBack}
 
 -- Why a run stopped: all n steps were made, or a reason. "The reason, 0 where all n were made."
 pub data Stop : Type 0 where
