@@ -1,14 +1,14 @@
 -- An accepted file's program: each of its records is formed, its numbers are there, its SETs are free of their own names.
-use Prim.Native.Nat.{ℕ, zero, suc, _+_, _≤_, _<_}
-use mathlib.Core.Path.{_≡_, refl, ap, sym, _∙_}
+use Prim.Native.Nat.{ℕ, suc, _<_}
+use mathlib.Core.Path.{_≡_, refl}
 use mathlib.Core.Bool.{Bool, true, false, not, _&&_}
 use mathlib.Core.List.{List, [], _∷_, _++_}
-use lib.ListN.{length, getD}
+use lib.ListN.{length}
 use lib.Dec.{ltb}
 use native.Mathlib.Omega.{arith}
 use borrow.Author.Tests.{ltb-true}
 use Rattle.expr.specs.Tree.{known}
-use Rattle.program.specs.Records.{Record, begin, end, if, else, fi, from, loop, until, Formed, FineFrom, InSize, thereTarget, there, ownTarget, own}
+use Rattle.program.specs.Records.{Record, end, else, fi, loop, until, Formed, FineFrom, thereTarget, there, ownTarget, own}
 use Rattle.program.specs.Trees.{Stmt, setS, skipS, callS, uncallS, ifS, fromS, Block, one, _then_, Tree, procedures, recordsS, recordsB, recordsP, recordsOf}
 use Rattle.program.specs.Says.{All, thereIn, free, Accepts}
 use Rattle.machine.proofs.Cuts.{Undoes, Wf}

@@ -1,26 +1,24 @@
 -- A SET is undone in the opposite direction: its own name occurs in neither expression, so both evaluate to the same afterwards.
 use Prim.Native.Nat.{ℕ, zero, suc, _+_, _≤_, _<_}
-use mathlib.Core.Path.{_≡_, refl, ap, ap₂, sym, _∙_, subst, subst⁻¹}
-use mathlib.Core.Bool.{Bool, true, false, not, cond, _&&_, _||_}
+use mathlib.Core.Path.{_≡_, refl, ap, sym, _∙_, subst}
+use mathlib.Core.Bool.{Bool, true, false, cond, _||_}
 use mathlib.Core.List.{List, [], _∷_}
-use mathlib.Core.Logic.{_⊎_, inl, inr, ⊎-elim}
 use lib.ListN.{length, getD, set as put, length-set}
 use lib.Seq.{getD-set-same, getD-set-other, set-getD, set-set}
 use lib.Dec.{ltb, eqb}
-use lib.IntN.{ℤ, pos, negsuc, _+ℤ_, _-ℤ_}
+use lib.IntN.{ℤ, pos, negsuc}
 use native.Mathlib.Omega.{arith}
 use borrow.Author.Tests.{ltb-true, ltb-false, eqb-true, eqb-false}
 use mir.Syntax.{w32}
 use mir.Val.{SFits}
-use Rattle.values.specs.Values.{wrap, xorZ}
 use Rattle.values.proofs.Laws.{undo-sum, undo-difference, undo-exclusive, sum-fits, difference-fits, exclusive-fits}
 use Rattle.expr.specs.Tree.{Expr, Valid, Worth, value, stop, eval, Name, scalar, array, occurs, known, There, Same}
 use Rattle.expr.specs.Answers.{InCell}
 use Rattle.expr.proofs.Agree.{eval-keeps, eval-fits}
-use Rattle.program.specs.Records.{Target, cell, entry, PlainTarget, Plain, thereTarget, ownTarget, sum}
+use Rattle.program.specs.Records.{Target, cell, entry, thereTarget, ownTarget, sum}
 use Rattle.program.specs.Trees.{Tree, cells}
 use Rattle.machine.specs.Places.{Dir, down, up, opp}
-use Rattle.machine.specs.Stores.{Reason, Answer, ok, no, bind, Store, Sized, startsFrom, layout, reasonOf, answered, evaluated, applied, operator, entryAt, cellOf, assigned, badIndex}
+use Rattle.machine.specs.Stores.{Answer, ok, no, bind, Store, Sized, startsFrom, layout, reasonOf, answered, evaluated, applied, operator, entryAt, cellOf, assigned, badIndex}
 use Rattle.machine.proofs.Follow.{and-true}
 use Rattle.machine.proofs.Cuts.{Undoes}
 use Rattle.machine.proofs.Why.{ok-no}

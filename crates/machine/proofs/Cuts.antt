@@ -1,23 +1,19 @@
 -- Places as gaps: the gap between two neighbouring records, a direction and the labels of the open calls; the step on them;
 -- and what an accepted program gives, record by record.
-use Prim.Native.Nat.{ℕ, zero, suc, _+_, _-_, _≤_, _<_, pred}
-use mathlib.Core.Path.{_≡_, refl, ap, ap₂, sym, _∙_, subst, subst⁻¹}
-use mathlib.Core.Bool.{Bool, true, false, not, cond}
-use mathlib.Core.List.{List, [], _∷_, _++_}
-use mathlib.Core.Logic.{_⊎_, inl, inr, _↔_, ⊎-elim}
-use lib.ListN.{length, getD, length-append, List·getD-eq-default}
-use lib.Dec.{ltb, eqb}
-use native.Mathlib.Omega.{arith}
-use native.Mathlib.Nat.{suc-pred-eq-of-pos}
-use borrow.Author.Tests.{ltb-true, lt-ltb, ltb-false, le-ltb, eq-eqb, ne-eqb}
+use Prim.Native.Nat.{ℕ, suc, _≤_, _<_, pred}
+use mathlib.Core.Path.{_≡_}
+use mathlib.Core.Bool.{Bool, true, false, cond}
+use mathlib.Core.List.{List, [], _∷_}
+use lib.ListN.{length}
+use lib.Dec.{ltb}
 use Rattle.expr.specs.Tree.{Expr}
 use Rattle.program.specs.Records.{Target}
 use Rattle.program.specs.Trees.{Tree}
-use Rattle.machine.specs.Edges.{Frame, inThen, inElse, inDo, inLoop, called}
+use Rattle.machine.specs.Edges.{inThen, inElse, inDo, inLoop}
 use Rattle.machine.specs.Places.{Dir, down, up, opp, calls}
-use Rattle.machine.specs.Stores.{Answer, ok, no, bind, Store, Sized, holds, assigned, atEnd, wrongValue, tooDeep}
+use Rattle.machine.specs.Stores.{Answer, ok, no, bind, Store, Sized, holds, assigned, atEnd, tooDeep}
 use Rattle.machine.specs.Step.{again, same, must}
-use Rattle.machine.proofs.Linked.{Con, Rec, nameL, beginL, endL, setL, skipL, ifL, elseL, fiL, fromL, loopL, untilL, callL, uncallL, Prog, onto, off, side, gateL, resume}
+use Rattle.machine.proofs.Linked.{Con, Rec, nameL, beginL, endL, setL, skipL, ifL, elseL, fiL, fromL, loopL, untilL, callL, uncallL, Prog, onto, gateL, resume}
 
 -- A cut: the gap g between the records g and g + 1, a direction, the labels of the open calls.
 pub record Cut : Type 0 where

@@ -1,19 +1,19 @@
 -- What follows on an edge: a label, a direction and the enclosing constructs tell the gap, so at most one label follows.
-use Prim.Native.Nat.{ℕ, zero, suc, _+_, _≤_, _<_, pred}
+use Prim.Native.Nat.{ℕ, zero, suc, _≤_, _<_, pred}
 use mathlib.Core.Path.{_≡_, refl, ap, ap₂, sym, _∙_, subst}
 use mathlib.Core.Bool.{Bool, true, false, cond, _&&_}
-use mathlib.Core.List.{List, [], _∷_, _++_, List·Memᴰ, List·Memᴰ·head, List·Memᴰ·tail, List·Memᴰ·not-nil}
+use mathlib.Core.List.{List, [], _∷_, List·Memᴰ, List·Memᴰ·head, List·Memᴰ·tail, List·Memᴰ·not-nil}
 use lib.Dec.{eqb}
 use native.Mathlib.Omega.{arith}
 use borrow.Author.Tests.{eq-eqb, eqb-true}
 use Rattle.program.specs.Trees.{Tree}
 use Rattle.machine.specs.Edges.{Frame, inThen, inElse, inDo, inLoop, called, frameKind, frameLabel, Edge, edges}
-use Rattle.machine.specs.Places.{Dir, down, up, opp, near, far, calls}
-use Rattle.machine.specs.Step.{again, inner, sameFrames, ahead}
+use Rattle.machine.specs.Places.{Dir, down, up, opp, near, far}
+use Rattle.machine.specs.Step.{sameFrames, ahead}
 use Rattle.machine.proofs.Linked.{Con, Rec, nameL, beginL, endL, setL, skipL, ifL, elseL, fiL, fromL, loopL, untilL, callL, uncallL, Prog, onto, off}
 use Rattle.machine.proofs.Cuts.{CondOk, LoopOk, Local, Wf}
 use Rattle.machine.proofs.Rows.{prog}
-use Rattle.machine.proofs.Gaps.{tip, gapAt, Gap, on-edge, edge-on}
+use Rattle.machine.proofs.Gaps.{tip, gapAt, on-edge, edge-on}
 
 -- ---- frames are told by their kinds and labels
 frame : ℕ → ℕ → Frame

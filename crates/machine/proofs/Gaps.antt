@@ -1,25 +1,18 @@
 -- The edges as document 01 lists them are the gaps between neighbouring records of a procedure.
-use Prim.Native.Nat.{ℕ, zero, suc, _+_, _-_, _≤_, _<_, pred}
+use Prim.Native.Nat.{ℕ, zero, suc, _+_, _≤_, _<_, pred}
 use mathlib.Core.Path.{_≡_, refl, ap, ap₂, sym, _∙_, subst, subst⁻¹}
-use mathlib.Core.Bool.{Bool, true, false, not, cond}
 use mathlib.Core.List.{List, [], _∷_, _++_}
-use mathlib.Core.Logic.{_⊎_, inl, inr, _↔_, ⊎-elim}
-use lib.ListN.{length, getD, length-append, List·getD-eq-default}
-use lib.Dec.{ltb, eqb}
+use mathlib.Core.Logic.{⊎-elim}
 use native.Mathlib.Omega.{arith}
 use native.Mathlib.Nat.{suc-pred-eq-of-pos}
-use borrow.Author.Tests.{ltb-true, lt-ltb, ltb-false, le-ltb, eq-eqb, ne-eqb}
-use Rattle.expr.specs.Tree.{Expr}
-use Rattle.program.specs.Records.{Target}
 use Rattle.program.specs.Trees.{Stmt, setS, skipS, callS, uncallS, ifS, fromS, Block, one, _then_, Tree, procedures}
 use Rattle.machine.specs.Labels.{sizeS, sizeB, exit, beginFrom, endFrom}
-use Rattle.machine.specs.Edges.{Frame, inThen, inElse, inDo, inLoop, called, Edge, edge, edgesS, edgesB, edgesP, edges}
-use Rattle.machine.specs.Places.{Dir, down, up, opp, calls}
-use Rattle.machine.specs.Stores.{Answer, ok, no, bind, Store, Sized, holds, assigned, atEnd, wrongValue, tooDeep}
-use Rattle.machine.specs.Step.{again, same, must}
-use Rattle.machine.proofs.Linked.{Con, Rec, nameL, beginL, endL, setL, skipL, ifL, elseL, fiL, fromL, loopL, untilL, callL, uncallL, Prog, onto, off, side, gateL, resume}
-use Rattle.machine.proofs.Cuts.{Cut, turned, met, gap, leave, Port, hub, arm, assign′, pass′, enter′, return′, never′, port, through, cstep, Span, CondOk, LoopOk, Undoes, SimpleOk, ProcOk, Local, Wf, Good, in-main, by-call, by-uncall, Sits}
-use Rattle.machine.proofs.Rows.{Row, row, around, con, rowsS, rowsB, lengthS, lengthB, Holds, holds-left, holds-right, Wrapped, holds-around, entry-is, entryB, endS, endB, rowsP, noRow, rowsOf, prog}
+use Rattle.machine.specs.Edges.{Frame, inThen, inElse, inDo, inLoop, Edge, edge, edgesS, edgesB, edgesP, edges}
+use Rattle.machine.specs.Places.{Dir, down, up}
+use Rattle.machine.specs.Stores.{holds}
+use Rattle.machine.proofs.Linked.{Prog, onto, off, side}
+use Rattle.machine.proofs.Cuts.{met}
+use Rattle.machine.proofs.Rows.{rowsS, rowsB, lengthS, lengthB, Holds, holds-left, holds-right, holds-around, entry-is, endS, rowsP, prog}
 use Rattle.machine.proofs.Locals.{either}
 use Rattle.machine.proofs.Whole.{Suffix, rest, suffix}
 use mathlib.Core.List.{List·Memᴰ, List·Memᴰ·head, List·Memᴰ·tail, List·Memᴰ·not-nil, List·Memᴰ·append-cases, Memᴰ·append-left, Memᴰ·append-right}

@@ -1,14 +1,13 @@
 -- The definitions computed: document 01's worked runs, forth and back.
-use Prim.Native.Nat.{ℕ, zero, suc}
-use mathlib.Core.List.{List, [], _∷_}
+use mathlib.Core.List.{[], _∷_}
 use mathlib.Core.Path.{_≡_, refl}
-use lib.IntN.{ℤ, pos}
+use lib.IntN.{pos}
 use Rattle.values.specs.Values.{wrap, applyOp}
-use Rattle.expr.specs.Tree.{Expr, con, var, bin, eval}
+use Rattle.expr.specs.Tree.{con, var, bin, eval}
 use Rattle.program.specs.Records.{cell, kind}
 use Rattle.program.specs.Trees.{Tree, setS, skipS, callS, fromS, one, _then_, recordsOf, recordsP, recordsS}
 use Rattle.machine.specs.Labels.{sizeS, headsS, headsP, beginFrom, endFrom}
-use Rattle.machine.specs.Edges.{called, edgesS, edgesP}
+use Rattle.machine.specs.Edges.{edgesS, edgesP}
 use Rattle.machine.specs.Places.{Place, down}
 use Rattle.machine.specs.Stores.{atEnd, tooDeep, bind, evaluated, holds, startsFrom, cellOf, assigned}
 use Rattle.machine.specs.Step.{act, ahead, after, returned, perform, step, stepBack, start}

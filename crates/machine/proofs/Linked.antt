@@ -1,6 +1,6 @@
 -- The records of a program with their links: each knows its construct or its procedure. The proofs walk on these.
-use Prim.Native.Nat.{ℕ, zero, suc, _+_}
-use mathlib.Core.List.{List, [], _∷_}
+use Prim.Native.Nat.{ℕ}
+use mathlib.Core.List.{List}
 use Rattle.expr.specs.Tree.{Expr}
 use Rattle.program.specs.Records.{Target, Record, names, begin, end, set, if, else, fi, from, loop, until, call, uncall, skip}
 use Rattle.machine.specs.Edges.{Frame}

@@ -1,14 +1,14 @@
 -- The linked records are the file's records, and their links the document's: labels, heads, sizes.
 use Prim.Native.Nat.{ℕ, zero, suc, _+_}
-use mathlib.Core.Path.{_≡_, refl, ap, sym, _∙_}
+use mathlib.Core.Path.{_≡_, refl, ap, _∙_}
 use mathlib.Core.List.{List, [], _∷_, _++_}
 use lib.ListN.{length, getD}
 use Rattle.program.specs.Records.{Record, names}
 use Rattle.program.specs.Trees.{Stmt, setS, skipS, callS, uncallS, ifS, fromS, Block, one, _then_, Tree, procedures, recordsS, recordsB, recordsP, recordsOf}
 use Rattle.machine.specs.Labels.{at, head, sizeS, sizeB, headsS, headsB, headsP}
 use Rattle.machine.specs.Edges.{Frame, inThen, inElse, inDo, inLoop}
-use Rattle.machine.proofs.Linked.{Rec, forget, headOf}
-use Rattle.machine.proofs.Rows.{Row, around, rowsS, rowsB, lengthS, lengthB, rowsP, noRow, rowsOf, prog}
+use Rattle.machine.proofs.Linked.{forget, headOf}
+use Rattle.machine.proofs.Rows.{Row, around, rowsS, rowsB, lengthS, rowsP, noRow, rowsOf, prog}
 
 -- Rows that are these records, of constructs with these heads.
 data Same : List Row → List Record → List ℕ → Type 0 where

@@ -1,25 +1,21 @@
 -- What each record of a statement has beside it: its construct's three records, the frames around them, its procedure.
-use Prim.Native.Nat.{ℕ, zero, suc, _+_, _-_, _≤_, _<_, pred}
-use mathlib.Core.Path.{_≡_, refl, ap, ap₂, sym, _∙_, subst, subst⁻¹}
-use mathlib.Core.Bool.{Bool, true, false, not, cond}
-use mathlib.Core.List.{List, [], _∷_, _++_}
-use mathlib.Core.Logic.{_⊎_, inl, inr, _↔_, ⊎-elim}
-use lib.ListN.{length, getD, length-append, List·getD-eq-default}
-use lib.Dec.{ltb, eqb}
+use Prim.Native.Nat.{ℕ, suc, _+_, _≤_, _<_, pred}
+use mathlib.Core.Path.{_≡_, refl, sym, _∙_}
+use mathlib.Core.Bool.{Bool, true, false}
+use mathlib.Core.List.{List, _∷_}
+use mathlib.Core.Logic.{_⊎_, inl, inr}
+use lib.Dec.{ltb}
 use native.Mathlib.Omega.{arith}
-use native.Mathlib.Nat.{suc-pred-eq-of-pos}
-use borrow.Author.Tests.{ltb-true, lt-ltb, ltb-false, le-ltb, eq-eqb, ne-eqb}
+use borrow.Author.Tests.{ltb-true, ltb-false, ne-eqb}
 use Rattle.expr.specs.Tree.{Expr}
 use Rattle.program.specs.Records.{Target}
-use Rattle.program.specs.Trees.{Stmt, setS, skipS, callS, uncallS, ifS, fromS, Block, one, _then_, Tree, procedures}
-use Rattle.machine.specs.Labels.{sizeS, sizeB, beginFrom, endFrom, beginOf, endOf}
-use Rattle.machine.specs.Edges.{Frame, inThen, inElse, inDo, inLoop, called}
-use Rattle.machine.specs.Places.{Dir, down, up, opp, calls}
-use Rattle.machine.specs.Stores.{Answer, ok, no, bind, Store, Sized, holds, assigned, atEnd, wrongValue, tooDeep}
-use Rattle.machine.specs.Step.{again, same, must}
-use Rattle.machine.proofs.Linked.{Con, Rec, nameL, beginL, endL, setL, skipL, ifL, elseL, fiL, fromL, loopL, untilL, callL, uncallL, Prog, onto, off, side, gateL, resume}
-use Rattle.machine.proofs.Cuts.{Cut, turned, met, gap, leave, Port, hub, arm, assign′, pass′, enter′, return′, never′, port, through, cstep, Span, CondOk, LoopOk, Undoes, SimpleOk, ProcOk, Local, Wf, Good, in-main, by-call, by-uncall, Sits}
-use Rattle.machine.proofs.Rows.{Row, row, around, con, rowsS, rowsB, lengthS, lengthB, Holds, holds-left, holds-right, Wrapped, holds-around, entry-is, entryB, endS, endB, rowsP, noRow, rowsOf, prog, plain-getD, plainP}
+use Rattle.program.specs.Trees.{Stmt, setS, skipS, callS, uncallS, ifS, fromS, Block, one, _then_, Tree}
+use Rattle.machine.specs.Labels.{sizeS, sizeB}
+use Rattle.machine.specs.Edges.{Frame, inThen, inElse, inDo, inLoop}
+use Rattle.machine.specs.Step.{again}
+use Rattle.machine.proofs.Linked.{Rec, setL, skipL, callL, uncallL, Prog, onto}
+use Rattle.machine.proofs.Cuts.{Span, CondOk, LoopOk, Undoes, SimpleOk, ProcOk, Local}
+use Rattle.machine.proofs.Rows.{con, rowsS, rowsB, lengthS, lengthB, Holds, holds-left, holds-right, holds-around, entryB, endS, endB}
 
 -- What refusals 7 and 8 leave: calls of procedures that are there, and SETs that can be undone.
 abbrev mutual

@@ -1,23 +1,21 @@
 -- The loop lemma on cuts: where a step arrives, the opposite step from there arrives where it came from.
-use Prim.Native.Nat.{ℕ, zero, suc, _+_, _-_, _≤_, _<_, pred}
-use mathlib.Core.Path.{_≡_, refl, ap, ap₂, sym, _∙_, subst, subst⁻¹}
-use mathlib.Core.Bool.{Bool, true, false, not, cond}
-use mathlib.Core.List.{List, [], _∷_, _++_}
-use mathlib.Core.Logic.{_⊎_, inl, inr, _↔_, ⊎-elim}
-use lib.ListN.{length, getD, length-append, List·getD-eq-default}
-use lib.Dec.{ltb, eqb}
+use Prim.Native.Nat.{ℕ, suc, _≤_, _<_, pred}
+use mathlib.Core.Path.{_≡_, refl, ap, sym, _∙_, subst}
+use mathlib.Core.Bool.{Bool, true, false, cond}
+use mathlib.Core.List.{List, _∷_}
+use lib.ListN.{length}
+use lib.Dec.{ltb}
 use native.Mathlib.Omega.{arith}
 use native.Mathlib.Nat.{suc-pred-eq-of-pos}
-use borrow.Author.Tests.{ltb-true, lt-ltb, ltb-false, le-ltb, eq-eqb, ne-eqb}
+use borrow.Author.Tests.{ltb-true, lt-ltb}
 use Rattle.expr.specs.Tree.{Expr}
 use Rattle.program.specs.Records.{Target}
 use Rattle.program.specs.Trees.{Tree}
-use Rattle.machine.specs.Edges.{Frame, inThen, inElse, inDo, inLoop, called}
-use Rattle.machine.specs.Places.{Dir, down, up, opp, calls}
-use Rattle.machine.specs.Stores.{Answer, ok, no, bind, Store, Sized, holds, assigned, atEnd, wrongValue, tooDeep}
-use Rattle.machine.specs.Step.{again, same, must}
-use Rattle.machine.proofs.Linked.{Con, Rec, nameL, beginL, endL, setL, skipL, ifL, elseL, fiL, fromL, loopL, untilL, callL, uncallL, Prog, onto, off, side, gateL, resume}
-use Rattle.machine.proofs.Cuts.{Cut, turned, met, gap, leave, Port, hub, arm, assign′, pass′, enter′, return′, never′, port, through, cstep, Span, CondOk, LoopOk, Undoes, SimpleOk, ProcOk, Local, Wf, Good, in-main, by-call, by-uncall, Sits}
+use Rattle.machine.specs.Places.{Dir, down, up, opp}
+use Rattle.machine.specs.Stores.{Answer, ok, no, bind, Store, Sized, holds, assigned, tooDeep}
+use Rattle.machine.specs.Step.{same, must}
+use Rattle.machine.proofs.Linked.{Con, Rec, nameL, beginL, endL, setL, skipL, ifL, elseL, fiL, fromL, loopL, untilL, callL, uncallL, Prog, gateL, resume}
+use Rattle.machine.proofs.Cuts.{Cut, turned, met, gap, leave, Port, hub, arm, assign′, pass′, enter′, return′, port, through, cstep, Span, Undoes, SimpleOk, ProcOk, Local, Wf, Good, in-main, by-call, by-uncall, Sits}
 
 pub met-gap : (y : ℕ) (d : Dir) → 0 < y → met (gap y d) (opp d) ≡ y
 met-gap y down h = refl

@@ -1,14 +1,13 @@
 -- The places that fit, in document 01's words, and the cuts that sit in the program match one to one.
-use Prim.Native.Nat.{ℕ, zero, suc, _+_, _≤_, _<_, pred}
+use Prim.Native.Nat.{ℕ, suc, _<_, pred}
 use mathlib.Core.Path.{_≡_, refl, ap, ap₂, sym, _∙_, subst, subst⁻¹}
 use mathlib.Core.List.{List, [], _∷_, _++_, List·Memᴰ}
-use mathlib.Core.Logic.{_⊎_, inl, inr, ⊎-elim}
-use lib.ListN.{length}
+use mathlib.Core.Logic.{_⊎_, inl, inr}
 use native.Mathlib.Omega.{arith}
 use Rattle.program.specs.Records.{call, uncall}
 use Rattle.program.specs.Trees.{Tree}
 use Rattle.machine.specs.Labels.{at}
-use Rattle.machine.specs.Edges.{Frame, inThen, inElse, inDo, inLoop, called, Edge, edge, edges}
+use Rattle.machine.specs.Edges.{Frame, inThen, inElse, inDo, inLoop, called, edge, edges}
 use Rattle.machine.specs.Places.{Dir, down, up, opp, Place, near, far, calls, Outer, in-main, entered, Fits}
 use Rattle.machine.specs.Step.{inner, ahead, after}
 use Rattle.machine.proofs.Linked.{Rec, nameL, beginL, endL, setL, skipL, ifL, elseL, fiL, fromL, loopL, untilL, callL, uncallL, Prog, forget, onto}

@@ -1,26 +1,24 @@
 -- At a place that fits: the step answers a reason exactly if the reason's condition holds, and arrives exactly if none does.
-use Prim.Native.Nat.{ℕ, zero, suc, _+_, _≤_, _<_, pred}
-use mathlib.Core.Path.{_≡_, refl, ap, sym, _∙_, subst, subst⁻¹}
+use Prim.Native.Nat.{ℕ, suc, pred}
+use mathlib.Core.Path.{_≡_, refl, ap, sym, _∙_, subst⁻¹}
 use mathlib.Core.List.{List, [], _∷_, _++_}
-use mathlib.Core.Logic.{_⊎_, inl, inr, _↔_}
-use native.Mathlib.Omega.{arith}
+use mathlib.Core.Logic.{inl, inr, _↔_}
 use Rattle.program.specs.Trees.{Tree}
 use Rattle.machine.specs.Labels.{at, head}
-use Rattle.machine.specs.Edges.{Frame, inThen, inElse, called}
-use Rattle.machine.specs.Places.{Dir, down, up, opp, Place, Fits}
-use Rattle.machine.specs.Stores.{Reason, Answer, ok, no, Store, Sized}
-use Rattle.machine.specs.Step.{act, perform, step}
+use Rattle.machine.specs.Edges.{Frame, inThen, inElse}
+use Rattle.machine.specs.Places.{Dir, down, up, Place, Fits}
+use Rattle.machine.specs.Stores.{Reason, Answer, ok, no, Store}
+use Rattle.machine.specs.Step.{act, step}
 use Rattle.machine.specs.Reasons.{Condition}
-use Rattle.machine.proofs.Linked.{Con, Rec, nameL, beginL, endL, setL, skipL, ifL, elseL, fiL, fromL, loopL, untilL, callL, uncallL, Prog, forget, headOf, side}
-use Rattle.machine.proofs.Cuts.{Cut, met, Local, Wf, Sits}
+use Rattle.machine.proofs.Linked.{Rec, nameL, beginL, endL, setL, skipL, ifL, elseL, fiL, fromL, loopL, untilL, callL, uncallL, Prog, forget, headOf, side}
+use Rattle.machine.proofs.Cuts.{met, Local, Wf, Sits}
 use Rattle.machine.proofs.Loop.{lo-met, hi-met, not-begin, not-end}
 use Rattle.machine.proofs.Rows.{prog}
 use Rattle.machine.proofs.Links.{at-is, head-is}
 use Rattle.machine.proofs.Gaps.{tip}
-use Rattle.machine.proofs.View.{stack, view}
-use Rattle.machine.proofs.Match.{Placed, fits-placed}
-use Rattle.machine.proofs.Undo.{back-undoes}
-use Rattle.machine.proofs.Why.{ok-no, Refuses, perform-no}
+use Rattle.machine.proofs.View.{stack}
+use Rattle.machine.proofs.Match.{fits-placed}
+use Rattle.machine.proofs.Why.{ok-no, perform-no}
 use Rattle.machine.proofs.Conditions.{Branch, Top, Shape, refuses-meets, meets-refuses}
 
 module _ (τ : Tree) (w : Wf τ (prog τ)) where

@@ -1,23 +1,15 @@
 -- The rows of a tree: its linked records, each with the constructs open after it; and what a program that holds them has.
-use Prim.Native.Nat.{ℕ, zero, suc, _+_, _-_, _≤_, _<_, pred}
-use mathlib.Core.Path.{_≡_, refl, ap, ap₂, sym, _∙_, subst, subst⁻¹}
-use mathlib.Core.Bool.{Bool, true, false, not, cond}
+use Prim.Native.Nat.{ℕ, zero, suc, _+_, pred}
+use mathlib.Core.Path.{_≡_, refl, ap₂, _∙_, subst}
 use mathlib.Core.List.{List, [], _∷_, _++_}
-use mathlib.Core.Logic.{_⊎_, inl, inr, _↔_, ⊎-elim}
-use lib.ListN.{length, getD, length-append, List·getD-eq-default}
-use lib.Dec.{ltb, eqb}
+use lib.ListN.{length, getD, length-append}
 use native.Mathlib.Omega.{arith}
-use native.Mathlib.Nat.{suc-pred-eq-of-pos}
-use borrow.Author.Tests.{ltb-true, lt-ltb, ltb-false, le-ltb, eq-eqb, ne-eqb}
 use Rattle.expr.specs.Tree.{Expr}
-use Rattle.program.specs.Records.{Target, Record, names}
-use Rattle.program.specs.Trees.{Stmt, setS, skipS, callS, uncallS, ifS, fromS, Block, one, _then_, Tree, procedures, recordsS, recordsB, recordsP, recordsOf}
-use Rattle.machine.specs.Labels.{sizeS, sizeB, headsS, headsB, headsP, beginFrom, endFrom, beginOf, endOf, middle, ending}
-use Rattle.machine.specs.Edges.{Frame, inThen, inElse, inDo, inLoop, called}
-use Rattle.machine.specs.Places.{Dir, down, up, opp, calls}
-use Rattle.machine.specs.Stores.{Answer, ok, no, bind, Store, Sized, holds, assigned, atEnd, wrongValue, tooDeep}
-use Rattle.machine.specs.Step.{again, same, must}
-use Rattle.machine.proofs.Linked.{Con, Rec, nameL, beginL, endL, setL, skipL, ifL, elseL, fiL, fromL, loopL, untilL, callL, uncallL, Prog, onto, off, side, gateL, resume, forget, headOf}
+use Rattle.program.specs.Trees.{Stmt, setS, skipS, callS, uncallS, ifS, fromS, Block, one, _then_, Tree, procedures}
+use Rattle.machine.specs.Labels.{sizeS, sizeB, beginOf, endOf}
+use Rattle.machine.specs.Edges.{Frame, inThen, inElse, inDo, inLoop}
+use Rattle.machine.specs.Places.{calls}
+use Rattle.machine.proofs.Linked.{Con, Rec, nameL, beginL, endL, setL, skipL, ifL, elseL, fiL, fromL, loopL, untilL, callL, uncallL, Prog, onto}
 
 pub record Row : Type 0 where
   pub rec : Rec

@@ -1,13 +1,12 @@
 -- A run is that many single steps; n then m is n + m where n were made; and what a run did, as many steps back undo.
-use Prim.Native.Nat.{ℕ, zero, suc, _+_, _≤_, _<_}
+use Prim.Native.Nat.{ℕ, zero, suc, _+_, _<_}
 use mathlib.Core.Path.{_≡_, refl, ap, sym, _∙_, subst}
-use mathlib.Core.List.{List}
 use native.Mathlib.Omega.{arith}
 use Rattle.program.specs.Trees.{Tree}
 use Rattle.machine.specs.Places.{Place, Fits}
 use Rattle.machine.specs.Stores.{Answer, ok, no, Store, Sized, Reason}
 use Rattle.machine.specs.Step.{step, stepBack}
-use Rattle.machine.specs.Runs.{Stop, made, because, Ran, counted, onward, runBy, run, runBack}
+use Rattle.machine.specs.Runs.{made, because, Ran, counted, onward, runBy, run, runBack}
 use Rattle.machine.proofs.Cuts.{Wf}
 use Rattle.machine.proofs.Rows.{prog}
 use Rattle.machine.proofs.Undo.{back-undoes, forward-undoes}

@@ -1,21 +1,20 @@
 -- The step on places is the step on cuts: one case for each kind of record and direction.
-use Prim.Native.Nat.{ℕ, zero, suc, _+_, _≤_, _<_, pred}
-use mathlib.Core.Path.{_≡_, refl, ap, sym, _∙_}
+use Prim.Native.Nat.{ℕ, suc, pred}
+use mathlib.Core.Path.{_≡_, refl, ap, sym}
 use mathlib.Core.Bool.{Bool, true, false}
 use mathlib.Core.List.{List, [], _∷_, _++_}
 use native.Mathlib.Omega.{arith}
 use borrow.Author.Tests.{eq-eqb}
 use Rattle.expr.specs.Tree.{Expr}
 use Rattle.program.specs.Trees.{Tree}
-use Rattle.machine.specs.Edges.{Frame, inThen, inElse, inDo, inLoop}
+use Rattle.machine.specs.Edges.{Frame, inDo, inLoop}
 use Rattle.machine.specs.Places.{Dir, down, up, opp}
-use Rattle.machine.specs.Stores.{ok, bind, Store, holds, assigned}
-use Rattle.machine.specs.Step.{act, chooses, closes, opens, tests, after, pop, wanted, again, perform, step}
-use Rattle.machine.proofs.Linked.{Con, Rec, nameL, beginL, endL, setL, skipL, ifL, elseL, fiL, fromL, loopL, untilL, callL, uncallL, Prog}
-use Rattle.machine.proofs.Cuts.{Cut, met, gap, leave, hub, arm, port, through, cstep, Local, Wf, by-call, by-uncall, Sits}
+use Rattle.machine.specs.Stores.{ok, Store, holds, assigned}
+use Rattle.machine.specs.Step.{act, closes, opens, after, pop, wanted, again, perform, step}
+use Rattle.machine.proofs.Linked.{Rec, nameL, beginL, endL, setL, skipL, ifL, elseL, fiL, fromL, loopL, untilL, callL, uncallL, Prog}
+use Rattle.machine.proofs.Cuts.{Cut, met, leave, arm, port, through, cstep, Local, Wf, by-call, by-uncall, Sits}
 use Rattle.machine.proofs.Loop.{lo-met, hi-met, fit-gate, not-begin, not-end}
 use Rattle.machine.proofs.Rows.{prog}
-use Rattle.machine.proofs.Gaps.{tip}
 use Rattle.machine.proofs.View.{stack, view, seen, fresh-stack, must-sim, opens-sim, either-sim, choose-sim, assign-sim, side-call, side-uncall, arrive3, arrive1, encl-left, sim-with, spot, ret-sim, enter-sim}
 
 module _ (τ : Tree) (w : Wf τ (prog τ)) where

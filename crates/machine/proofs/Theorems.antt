@@ -1,6 +1,6 @@
 -- Demands 2 and 3: what is proved of every accepted file, every store of its size and every place that fits.
-use Prim.Native.Nat.{ℕ, _+_, _<_}
-use mathlib.Core.Path.{_≡_, ap, sym, _∙_}
+use Prim.Native.Nat.{ℕ, _+_}
+use mathlib.Core.Path.{_≡_}
 use mathlib.Core.List.{List}
 use mathlib.Core.Logic.{_↔_}
 use Rattle.program.specs.Trees.{Tree}
@@ -9,7 +9,7 @@ use Rattle.machine.specs.Places.{Dir, Place, turn, Fits}
 use Rattle.machine.specs.Stores.{Reason, atEnd, Answer, ok, no, bind, Store, Sized}
 use Rattle.machine.specs.Step.{step, stepBack, start}
 use Rattle.machine.specs.Reasons.{Condition}
-use Rattle.machine.specs.Runs.{Wish, walk, Stop, made, because, Ran, runBy, run, runBack}
+use Rattle.machine.specs.Runs.{Wish, walk, made, Ran, run, runBack}
 use Rattle.machine.proofs.Cuts.{Cut, Sits}
 use Rattle.machine.proofs.Rows.{prog}
 use Rattle.machine.proofs.View.{view}

@@ -1,11 +1,10 @@
 -- Where a step arrives, the place fits, the store has its size, and the opposite step arrives where it came from. The two starts.
-use Prim.Native.Nat.{ℕ, zero, suc, _≤_}
 use mathlib.Core.Path.{_≡_, refl, ap, ap₂, sym, _∙_, subst, subst⁻¹}
-use mathlib.Core.List.{List, []}
+use mathlib.Core.List.{[]}
 use native.Mathlib.Omega.{arith}
 use Rattle.program.specs.Trees.{Tree}
-use Rattle.machine.specs.Places.{Dir, down, up, opp, Place, turn, Fits}
-use Rattle.machine.specs.Stores.{Answer, ok, no, bind, Store, Sized, Reason, atEnd}
+use Rattle.machine.specs.Places.{Dir, down, up, Place, turn, Fits}
+use Rattle.machine.specs.Stores.{Answer, ok, no, bind, Store, Sized, atEnd}
 use Rattle.machine.specs.Step.{step, stepBack, start}
 use Rattle.machine.proofs.Linked.{Prog, gateL}
 use Rattle.machine.proofs.Cuts.{Cut, turned, leave, through, cstep, Wf, in-main, Sits}

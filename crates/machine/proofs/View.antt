@@ -1,23 +1,22 @@
 -- A place is a cut seen through the document's labels and frames; the step on places is the step on cuts.
-use Prim.Native.Nat.{ℕ, zero, suc, _+_, _≤_, _<_, pred}
-use mathlib.Core.Path.{_≡_, refl, ap, ap₂, sym, _∙_, subst}
+use Prim.Native.Nat.{ℕ, _+_, _≤_, _<_}
+use mathlib.Core.Path.{_≡_, refl, ap, ap₂, sym, _∙_}
 use mathlib.Core.Bool.{Bool, true, false, not, cond}
 use mathlib.Core.List.{List, [], _∷_, _++_}
 use lib.ListN.{length}
-use lib.Dec.{ltb, eqb}
+use lib.Dec.{ltb}
 use native.Mathlib.Omega.{arith}
-use borrow.Author.Tests.{ltb-true, eq-eqb}
-use Rattle.expr.specs.Tree.{Expr}
+use borrow.Author.Tests.{ltb-true}
 use Rattle.program.specs.Records.{kind}
 use Rattle.program.specs.Trees.{Tree}
 use Rattle.machine.specs.Labels.{at, head}
-use Rattle.machine.specs.Edges.{Frame, inThen, inElse, inDo, inLoop, called, frameKind, frameLabel, edges}
+use Rattle.machine.specs.Edges.{Frame, inThen, inElse, inDo, inLoop, called, edges}
 use Rattle.machine.specs.Places.{Dir, down, up, opp, Place, calls, gate}
-use Rattle.machine.specs.Stores.{Answer, ok, no, bind, Store, holds, assigned, atEnd, tooDeep}
-use Rattle.machine.specs.Step.{act, chooses, closes, opens, tests, enters, inner, ahead, after, pop, wanted, again, same, must, resumed, returned, perform, step}
-use Rattle.machine.proofs.Linked.{Con, Rec, nameL, beginL, endL, setL, skipL, ifL, elseL, fiL, fromL, loopL, untilL, callL, uncallL, Prog, forget, headOf, side, gateL, resume}
-use Rattle.machine.proofs.Cuts.{Cut, met, gap, leave, hub, arm, enter′, return′, port, through, cstep, Span, SimpleOk, ProcOk, Local, Wf, Good, in-main, by-call, by-uncall, Sits}
-use Rattle.machine.proofs.Loop.{met-gap, lo-met, hi-met, pos1, gate-pos, fit, fit1, fit3, fit-gate, not-begin, not-end}
+use Rattle.machine.specs.Stores.{Answer, ok, no, bind, Store, tooDeep}
+use Rattle.machine.specs.Step.{act, enters, inner, ahead, after, again, same, must, resumed, returned, perform, step}
+use Rattle.machine.proofs.Linked.{Con, Rec, callL, uncallL, Prog, forget, headOf, side, gateL}
+use Rattle.machine.proofs.Cuts.{Cut, met, gap, leave, enter′, return′, port, through, cstep, Span, SimpleOk, ProcOk, Wf, Good, in-main, by-call, by-uncall, Sits}
+use Rattle.machine.proofs.Loop.{met-gap, pos1, gate-pos, fit, fit1, fit3}
 use Rattle.machine.proofs.Rows.{prog}
 use Rattle.machine.proofs.Links.{at-is, head-is}
 use Rattle.machine.proofs.Gaps.{tip}

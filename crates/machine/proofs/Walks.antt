@@ -1,6 +1,6 @@
 -- However one walks forth and back from a start, going back is refused only at the start itself, and there as the end.
-use Prim.Native.Nat.{ℕ, zero, suc}
-use mathlib.Core.Path.{_≡_, refl, ap, sym, _∙_, subst}
+use Prim.Native.Nat.{ℕ}
+use mathlib.Core.Path.{_≡_, refl, subst}
 use mathlib.Core.List.{List, [], _∷_}
 use native.Mathlib.Omega.{arith}
 use Rattle.program.specs.Trees.{Tree}

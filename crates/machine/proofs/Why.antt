@@ -1,23 +1,17 @@
 -- A step is refused for a reason exactly where the reason's condition holds.
-use Prim.Native.Nat.{ℕ, zero, suc, _+_, _≤_, _<_}
-use mathlib.Core.Path.{_≡_, refl, ap, sym, _∙_, subst, subst⁻¹}
+use Prim.Native.Nat.{ℕ, _≤_}
+use mathlib.Core.Path.{_≡_, refl, sym}
 use mathlib.Core.Bool.{Bool, true, false, not, cond}
-use mathlib.Core.List.{List, [], _∷_, _++_}
+use mathlib.Core.List.{List, [], _∷_}
 use mathlib.Core.Logic.{_⊎_, inl, inr, _↔_, ⊎-elim}
-use lib.ListN.{getD}
-use lib.Dec.{ltb, eqb}
-use lib.IntN.{ℤ, pos, negsuc}
+use lib.Dec.{ltb}
 use native.Mathlib.Omega.{arith}
-use borrow.Author.Tests.{ltb-true, ltb-false, lt-ltb, le-ltb, eq-eqb, eqb-true}
-use Rattle.values.specs.Values.{isTrue}
-use Rattle.expr.specs.Tree.{Expr, Fault, byZero, badIndex as outside, Worth, value, stop, eval}
-use Rattle.program.specs.Records.{Target, cell, entry, Record, names, begin, end, set, if, else, fi, from, loop, until, call, uncall, skip}
+use borrow.Author.Tests.{ltb-false, le-ltb}
 use Rattle.program.specs.Trees.{Tree}
-use Rattle.machine.specs.Edges.{Frame, inThen, inElse, inDo, inLoop, called}
-use Rattle.machine.specs.Places.{Dir, down, up, opp, Place, calls, gate}
-use Rattle.machine.specs.Stores.{Reason, atEnd, wrongValue, zeroDivisor, badIndex, tooDeep, Answer, ok, no, bind, Store, layout, reasonOf, answered, evaluated, holds, entryAt, cellOf, assigned}
-use Rattle.machine.specs.Step.{Act, assigns, moves, chooses, closes, opens, tests, enters, returns, nothing, act, after, pop, wanted, again, same, must, returned, perform}
-use Rattle.machine.specs.Reasons.{AtEnd, end-down, begin-up, TooDeep, at-call, at-uncall, Misses, Faults, in-if, in-fi, in-from, in-until, in-set, in-index, index, in-entry, Closes, fi-down, if-up, Opens, from-down, until-up, Wrong, then-false, else-true, outside-false, again-true, Meets}
+use Rattle.machine.specs.Edges.{Frame, called}
+use Rattle.machine.specs.Places.{Dir, Place, calls, gate}
+use Rattle.machine.specs.Stores.{Reason, atEnd, wrongValue, tooDeep, Answer, ok, no, bind, Store, holds, assigned}
+use Rattle.machine.specs.Step.{Act, assigns, moves, chooses, closes, opens, tests, enters, returns, nothing, after, wanted, again, same, must, returned, perform}
 
 pub ok-no : {A X : Type 0} (a : A) (r : Reason) → _≡_ {A = Answer A} (ok a) (no r) → X
 ok-no a r e = absurd (let z : _≡_ {A = ℕ} 0 1 = cc in let y : ⊥ = omega arith in y)
