@@ -1,0 +1,2 @@
+-- The law of the table.
+pub mod Tabled
