@@ -1,10 +1,11 @@
 -- The definitions computed: document 01's worked runs, forth and back.
 use mathlib.Core.List.{[], _∷_}
 use mathlib.Core.Path.{_≡_, refl}
+use lib.ListN.{length}
 use lib.IntN.{pos}
 use Rattle.values.specs.Values.{wrap, applyOp}
-use Rattle.expr.specs.Tree.{con, var, bin, eval}
-use Rattle.program.specs.Records.{cell, kind}
+use Rattle.expr.specs.Tree.{con, var, bin, encode, eval}
+use Rattle.program.specs.Records.{cell, kind, words, body, encodeRecord, bytesOf}
 use Rattle.program.specs.Trees.{Tree, setS, skipS, callS, fromS, one, _then_, recordsOf, recordsP, recordsS}
 use Rattle.machine.specs.Labels.{sizeS, headsS, headsP, beginFrom, endFrom}
 use Rattle.machine.specs.Edges.{edgesS, edgesP}
@@ -22,6 +23,11 @@ counting = record {
       (one (fromS (bin 12 (var 0) (con (pos 0))) (one (setS 0 (cell 0) (con (pos 1)))) (one skipS) (bin 12 (var 0) (var 1))));
   others = [];
 }
+
+-- "the 76 byte file"
+counting-bytes : length (bytesOf (recordsOf counting)) ≡ 76
+unfolding bytesOf encodeRecord body words kind encode recordsOf recordsP recordsS
+counting-bytes = refl
 
 abbrev last : Place
 last = record { a = 7; b = 8; d = down; frames = [] }

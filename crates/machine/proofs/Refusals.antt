@@ -1,6 +1,6 @@
 -- At a place that fits: the step answers a reason exactly if the reason's condition holds, and arrives exactly if none does.
 use Prim.Native.Nat.{ℕ, suc, pred}
-use mathlib.Core.Path.{_≡_, refl, ap, sym, _∙_, subst⁻¹}
+use mathlib.Core.Path.{_≡_, refl, ap, sym, _∙_, subst, subst⁻¹}
 use mathlib.Core.List.{List, [], _∷_, _++_}
 use mathlib.Core.Logic.{inl, inr, _↔_}
 use Rattle.program.specs.Trees.{Tree}
@@ -8,7 +8,7 @@ use Rattle.machine.specs.Labels.{at, head}
 use Rattle.machine.specs.Edges.{Frame, inThen, inElse}
 use Rattle.machine.specs.Places.{Dir, down, up, Place, Fits}
 use Rattle.machine.specs.Stores.{Reason, Answer, ok, no, Store}
-use Rattle.machine.specs.Step.{act, step}
+use Rattle.machine.specs.Step.{act, nothing, step}
 use Rattle.machine.specs.Reasons.{Condition}
 use Rattle.machine.proofs.Linked.{Rec, nameL, beginL, endL, setL, skipL, ifL, elseL, fiL, fromL, loopL, untilL, callL, uncallL, Prog, forget, headOf, side}
 use Rattle.machine.proofs.Cuts.{met, Local, Wf, Sits}
@@ -74,6 +74,9 @@ module _ (τ : Tree) (w : Wf τ (prog τ)) where
       let k = fits-placed τ w p f in let s = k .cut in
       subst⁻¹ (λ k. Shape (act (at τ (k .b)) (head τ (k .b)) (k .d)) (k .frames)) (k .is)
       (shape (s .g) (s .d) (s .cs) _ refl (w .here (met (s .g) (s .d))) (k .sits))
+
+  pub acts : (p : Place) → Fits τ p → act (at τ (p .b)) (head τ (p .b)) (p .d) ≡ nothing → ⊥
+  acts p f e = subst (λ α. Shape α (p .frames)) e (shape-fits p f)
 
   -- The step answers r exactly if r's condition holds.
   pub refused : (p : Place) → Fits τ p → (σ : Store) (r : Reason) → step τ p σ ≡ no r ↔ Condition τ p σ r

@@ -1,15 +1,15 @@
 -- A run is that many single steps; n then m is n + m where n were made; and what a run did, as many steps back undo.
 use Prim.Native.Nat.{ℕ, zero, suc, _+_, _<_}
-use mathlib.Core.Path.{_≡_, refl, ap, sym, _∙_, subst}
+use mathlib.Core.Path.{_≡_, refl, ap, sym, _∙_, subst, subst⁻¹}
 use native.Mathlib.Omega.{arith}
 use Rattle.program.specs.Trees.{Tree}
-use Rattle.machine.specs.Places.{Place, Fits}
-use Rattle.machine.specs.Stores.{Answer, ok, no, Store, Sized, Reason}
-use Rattle.machine.specs.Step.{step, stepBack}
+use Rattle.machine.specs.Places.{Dir, Place, Fits}
+use Rattle.machine.specs.Stores.{Answer, ok, no, Store, Sized, Reason, atEnd}
+use Rattle.machine.specs.Step.{step, stepBack, start}
 use Rattle.machine.specs.Runs.{made, because, Ran, counted, onward, runBy, run, runBack}
 use Rattle.machine.proofs.Cuts.{Wf}
 use Rattle.machine.proofs.Rows.{prog}
-use Rattle.machine.proofs.Undo.{back-undoes, forward-undoes}
+use Rattle.machine.proofs.Undo.{back-undoes, forward-undoes, start-fits, start-refused}
 
 abbrev Step : Type 0
 Step = Place → Store → Answer (Place × Store)
@@ -60,6 +60,10 @@ module _ (s : Step) where
   fewer-is (suc n) zero r a (none {p = p} {σ = σ}) e = run-none n p σ r e
   fewer-is (suc n) (suc k) r a (then {p = p} {p₁ = p₁} {σ = σ} {σ₁ = σ₁} f h) e = run-first n p σ p₁ σ₁ f ∙ ap counted (fewer-is n k r (omega arith) h e)
 
+  is-steps : (n : ℕ) (p : Place) (σ : Store) (r : Ran) → IsRun s n p σ r → Steps s (r .steps) p σ (r .place) (r .store)
+  is-steps n p σ r (all h) = h
+  is-steps n p σ r (fewer a h e) = h
+
   -- .. and nothing else is.
   pub run-only : (n : ℕ) (p : Place) (σ : Store) (r : Ran) → IsRun s n p σ r → r ≡ runBy s n p σ
   run-only n p σ r (all h) = sym (all-is n h)
@@ -109,6 +113,17 @@ module _ (s : Step) where
   snoc none e = then e none
   snoc (then h r) e = then h (snoc r e)
 
+  -- Two rows of steps from one place to places where the next is refused are one row.
+  pub same-end : {n m : ℕ} {p p₁ p₂ : Place} {σ σ₁ σ₂ : Store} → Steps s n p σ p₁ σ₁ → Steps s m p σ p₂ σ₂ → (c c′ : Reason)
+      → s p₁ σ₁ ≡ no c → s p₂ σ₂ ≡ no c′ → (n ≡ m) × (σ₁ ≡ σ₂)
+  same-end none none c c′ h k = (refl, refl)
+  same-end none (then e g) c c′ h k = absurd (let z : _≡_ {A = ℕ} 0 1 = cc in let y : ⊥ = omega arith in y)
+  same-end (then e r) none c c′ h k = absurd (let z : _≡_ {A = ℕ} 0 1 = cc in let y : ⊥ = omega arith in y)
+  same-end (then {p₁ = p₁} {σ₁ = σ₁} e r) (then {k = j} {p₁ = p₂} {p′ = p′} {σ₁ = σ₂} {σ′ = σ′} f g) c c′ h k =
+      let t : _≡_ {A = Place × Store} (p₂, σ₂) (p₁, σ₁) = cc in
+      let z = same-end r (subst (λ x. Steps s j (x .0) (x .1) p′ σ′) t g) c c′ h k in
+      (ap suc (z .0), z .1)
+
 module _ (τ : Tree) (w : Wf τ (prog τ)) where
   -- Steps of one kind and as many of the other the opposite way.
   steps-back : {n : ℕ} {p p′ : Place} {σ σ′ : Store} → Fits τ p → Sized τ σ → Steps (step τ) n p σ p′ σ′ → Steps (stepBack τ) n p′ σ′ p σ
@@ -147,3 +162,17 @@ module _ (τ : Tree) (w : Wf τ (prog τ)) where
       go′ : (r : Ran) → IsRun (step τ) n p σ r → Fits τ (r .place) × Sized τ (r .store)
       go′ r (all h) = steps-fit f so h
       go′ r (fewer a h e) = steps-fit f so h
+
+  -- No two inputs to one output: runs from one start that come to one place and store began with one store, and made as many steps.
+  pub injective : (d : Dir) (n m : ℕ) (σ σ′ : Store) → Sized τ σ → Sized τ σ′ → run τ n (start τ d) σ .place ≡ run τ m (start τ d) σ′ .place
+      → run τ n (start τ d) σ .store ≡ run τ m (start τ d) σ′ .store → (run τ n (start τ d) σ .steps ≡ run τ m (start τ d) σ′ .steps) × (σ ≡ σ′)
+  injective d n m σ σ′ so so′ ep es =
+      let a = back-of n σ so in
+      let b = back-of m σ′ so′ in
+      let b′ = subst⁻¹ (λ q. Steps (stepBack τ) (run τ m (start τ d) σ′ .steps) q (run τ n (start τ d) σ .store) (start τ d) σ′) ep
+            (subst⁻¹ (λ q. Steps (stepBack τ) (run τ m (start τ d) σ′ .steps) (run τ m (start τ d) σ′ .place) q (start τ d) σ′) es b) in
+      same-end (stepBack τ) a b′ atEnd atEnd (start-refused τ w d σ) (start-refused τ w d σ′)
+    where
+      back-of : (n : ℕ) (σ : Store) → Sized τ σ
+          → Steps (stepBack τ) (run τ n (start τ d) σ .steps) (run τ n (start τ d) σ .place) (run τ n (start τ d) σ .store) (start τ d) σ
+      back-of n σ so = steps-back (start-fits τ w d) so (is-steps (step τ) n (start τ d) σ _ (run-is (step τ) n (start τ d) σ))

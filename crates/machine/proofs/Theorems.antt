@@ -5,9 +5,10 @@ use mathlib.Core.List.{List}
 use mathlib.Core.Logic.{_↔_}
 use Rattle.program.specs.Trees.{Tree}
 use Rattle.program.specs.Says.{Accepts}
+use Rattle.machine.specs.Labels.{at, head}
 use Rattle.machine.specs.Places.{Dir, Place, turn, Fits}
 use Rattle.machine.specs.Stores.{Reason, atEnd, Answer, ok, no, bind, Store, Sized}
-use Rattle.machine.specs.Step.{step, stepBack, start}
+use Rattle.machine.specs.Step.{act, nothing, step, stepBack, start}
 use Rattle.machine.specs.Reasons.{Condition}
 use Rattle.machine.specs.Runs.{Wish, walk, made, Ran, run, runBack}
 use Rattle.machine.proofs.Cuts.{Cut, Sits}
@@ -47,6 +48,10 @@ module _ {f : List ℕ} {t : Tree} (accepts : Accepts f t) where
   pub one-reason : (p : Place) → Fits t p → (σ : Store) (r r′ : Reason) → Condition t p σ r → Condition t p σ r′ → r ≡ r′
   one-reason = refusals.one-reason t (accepted-wf accepts)
 
+  -- No place that fits comes to the act that does nothing.
+  pub acts : (p : Place) → Fits t p → act (at t (p .b)) (head t (p .b)) (p .d) ≡ nothing → ⊥
+  acts = refusals.acts t (accepted-wf accepts)
+
   -- 1, 2. Where a step forward arrives, the place fits, the store has its size, and the step back arrives at the former store, labels, direction and frames.
   pub back-undoes-forward : (p : Place) → Fits t p → (σ : Store) → Sized t σ → (p′ : Place) (σ′ : Store) → step t p σ ≡ ok (p′, σ′)
       → Fits t p′ × Sized t σ′ × (stepBack t p′ σ′ ≡ ok (p, σ))
@@ -81,6 +86,11 @@ module _ {f : List ℕ} {t : Tree} (accepts : Accepts f t) where
 
   pub run-fits : (n : ℕ) (p : Place) (σ : Store) → Fits t p → Sized t σ → Fits t (run t n p σ .place) × Sized t (run t n p σ .store)
   run-fits = runs.run-fits t (accepted-wf accepts)
+
+  -- No two inputs to one output.
+  pub injective : (d : Dir) (n m : ℕ) (σ σ′ : Store) → Sized t σ → Sized t σ′ → run t n (start t d) σ .place ≡ run t m (start t d) σ′ .place
+      → run t n (start t d) σ .store ≡ run t m (start t d) σ′ .store → (run t n (start t d) σ .steps ≡ run t m (start t d) σ′ .steps) × (σ ≡ σ′)
+  injective = runs.injective t (accepted-wf accepts)
 
   -- 5. The places that fit and the gap places match one to one; and what follows a on the edge is told by a, the direction and the frames.
   pub place-of-cut : (s : Cut) → Sits (prog t) s → Fits t (view (prog t) s)
