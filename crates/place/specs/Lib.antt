@@ -1,0 +1,2 @@
+-- The definitions of `place`.
+pub mod Places
