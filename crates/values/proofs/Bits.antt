@@ -35,9 +35,14 @@ no-below n h = omega arith
 pub not-below : {X : Type 0} (n : ℕ) → ltb n 0 ≡ true → X
 not-below n e = absurd (no-below n (ltb-true n 0 e))
 
--- a number that is at least k and not k
-pub past : (k : ℕ) {n : ℕ} → k ≤ n → (n ≡ k → ⊥) → suc k ≤ n
-past k h f = lt-of-le-ne h (λ e. f (sym e))
+-- what a `match` on 0 to k - 1 leaves to its last arm
+abbrev pub Others : ℕ → ℕ → Type 0
+Others zero n = Unit {0}
+Others (suc k) n = Others k n × (n ≡ k → ⊥)
+
+pub beyond : (k n : ℕ) → Others k n → k ≤ n
+beyond zero n h = omega arith
+beyond (suc k) n h = lt-of-le-ne (beyond k n (h .0)) (λ e. h .1 (sym e))
 
 -- ---- what a local holds, and an i32 that is cast to an i64
 
