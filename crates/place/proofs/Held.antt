@@ -2,10 +2,13 @@
 --     seen-held         the place seen in the struct that holds p is p
 --     held-injective    so no struct holds two places
 --     held-seen         a struct with a direction, a count, kinds and unused slots as they must be holds the place seen in it
---     plain-yes, plain-direction, plain-count, plain-kind, plain-unused    what makes a struct plain, and what is so of each plain one
+--     plain-yes         so it is plain; plain-direction, -count, -kind, -unused-kinds and -unused-labels: and each plain one is such
+--     plain-of          the test `plainOf` decides `Plain`
 use mathlib.Core.Path.{_≡_, refl, sym, ap, _∙_, subst}
 use borrow.Author.Count.{below-more}
-use mathlib.Core.Bool.{Bool, true, false, not}
+use mathlib.Core.Bool.{Bool, true, false, not, cond}
+use lib.Dec.{eqb, leb}
+use borrow.Author.Tests.{eq-eqb, eqb-true, eqb-false, leb-true, leb-false}
 use mathlib.Core.List.{List, [], _∷_, _++_, map, reverse, reverse-cons, append-assoc}
 use Prim.Native.Nat.{ℕ, zero, suc, _+_, _-_, _≤_, _<_}
 use native.Mathlib.Omega.{arith}
@@ -13,7 +16,7 @@ use lib.ListN.{length, length-map, getD, take, drop, replicate, length-append, l
 use lib.Seq.{getD-at, getD-drop, take-suc, ext-getD, getD-append-add, getD-take}
 use Rattle.place.specs.declared.Place.{Place as Held}
 use Rattle.place.specs.Places.{Dir, down, up, Frame, inThen, inElse, inDo, inLoop, called, frameKind, frameLabel, Place}
-use Rattle.place.specs.Slots.{dirNumber, slots, held, Plain, Decides, dirOf, frameOf, framesIn, seen}
+use Rattle.place.specs.Slots.{dirNumber, slots, held, Plain, Decides, dirOf, frameOf, framesIn, seen, sameList, plainOf}
 
 -- ---- from the document's place to the struct and back
 dir-back : (d : Dir) → dirOf (dirNumber d) ≡ d
@@ -122,6 +125,9 @@ module _ (h : Held) (lk : length (h .kinds) ≡ 1104) (ll : length (h .labels) �
   pub plain-yes : Plain h
   plain-yes = record { place = seen h; room = omega (arith, count-is); holds = sym held-seen }
 
+pub length-slots : (xs : List ℕ) → length xs ≤ 1104 → length (slots xs) ≡ 1104
+length-slots xs h = omega (arith, length-append (reverse xs) (replicate (1104 - length xs) 0), length-reverse xs, length-replicate {A = ℕ} (1104 - length xs) 0)
+
 -- ---- what is so of each struct that holds a place
 dir-small : (d : Dir) → dirNumber d ≤ 1
 dir-small down = omega arith
@@ -197,3 +203,47 @@ decided X true true p q = refl
 decided X true false p q = absurd (q p)
 decided X false true p q = absurd (p q)
 decided X false false p q = refl
+
+-- ---- the test for `Plain`
+list-same : (xs ys : List ℕ) → sameList xs ys ≡ true → xs ≡ ys
+unfolding sameList
+list-same [] [] e = refl
+list-same [] (y ∷ ys) e = absurd (let z : _≡_ {A = ℕ} 0 1 = cc in omega arith)
+list-same (x ∷ xs) [] e = absurd (let z : _≡_ {A = ℕ} 0 1 = cc in omega arith)
+list-same (x ∷ xs) (y ∷ ys) e = go (eqb x y) refl (λ t. list-same xs ys t) e
+  where
+    go : (b : Bool) → eqb x y ≡ b → (sameList xs ys ≡ true → xs ≡ ys) → cond b (sameList xs ys) false ≡ true → x ∷ xs ≡ y ∷ ys
+    go true t r e = rw (eqb-true x y t, r e)
+    go false t r e = absurd (let z : _≡_ {A = ℕ} 0 1 = cc in omega arith)
+
+same-list : (xs : List ℕ) → sameList xs xs ≡ true
+unfolding sameList
+same-list [] = refl
+same-list (x ∷ xs) = rw (eq-eqb x x refl) (same-list xs)
+
+by : {X : Type 0} (b : Bool) → (b ≡ true → X) → (b ≡ false → X) → X
+by true f g = f refl
+by false f g = g refl
+
+-- a struct that holds a place holds the one seen in it
+plain-seen : (h : Held) → Plain h → held (seen h) ≡ h
+plain-seen h y = ap (λ (g : Held). held (seen g)) (y .holds) ∙ ap held (seen-held (y .place)) ∙ sym (y .holds)
+
+pub plain-of : (h : Held) → Decides (plainOf h) (Plain h)
+unfolding plainOf
+plain-of h =
+    by (leb (h .count) 1104)
+    (λ n. rw n (by (eqb (h .direction) (held (seen h) .direction))
+    (λ d. rw d (by (sameList (h .kinds) (held (seen h) .kinds))
+    (λ k. rw k (by (sameList (h .labels) (held (seen h) .labels))
+    (λ l. rw l (record { place = seen h; room = omega (arith, length-frames (h .count) (h .kinds) (h .labels), leb-true (h .count) 1104 n); holds = whole (eqb-true _ _ d) (list-same _ _ k) (list-same _ _ l) }))
+    (λ l. rw l (λ y. clash (ap (λ (g : Held). sameList (h .labels) (g .labels)) (plain-seen h y) ∙ same-list (h .labels)) l))))
+    (λ k. rw k (λ y. clash (ap (λ (g : Held). sameList (h .kinds) (g .kinds)) (plain-seen h y) ∙ same-list (h .kinds)) k))))
+    (λ d. rw d (λ y. eqb-false _ _ d (ap (λ (g : Held). g .direction) (sym (plain-seen h y)))))))
+    (λ n. rw n (λ y. omega (arith, plain-count h y, leb-false (h .count) 1104 n)))
+  where
+    clash : {b : Bool} → b ≡ true → b ≡ false → ⊥
+    clash p q = let z : _≡_ {A = ℕ} 0 1 = cc in omega arith
+
+    whole : h .direction ≡ held (seen h) .direction → h .kinds ≡ held (seen h) .kinds → h .labels ≡ held (seen h) .labels → h ≡ held (seen h)
+    whole d k l = λ i. record { direction = d i; a = h .a; b = h .b; count = sym (length-frames (h .count) (h .kinds) (h .labels)) i; kinds = k i; labels = l i }

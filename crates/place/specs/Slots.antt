@@ -2,7 +2,8 @@
 -- Assumes nothing: these are definitions.
 use Prim.Native.Nat.{ℕ, zero, suc, _-_, _≤_}
 use mathlib.Core.Path.{_≡_}
-use mathlib.Core.Bool.{Bool, true, false}
+use mathlib.Core.Bool.{Bool, true, false, cond}
+use lib.Dec.{eqb, leb}
 use mathlib.Core.List.{List, [], _∷_, _++_, map, reverse}
 use lib.ListN.{length, getD, replicate}
 use Rattle.place.specs.declared.Place.{Place as Held}
@@ -57,3 +58,16 @@ framesIn (suc n) ks ls = frameOf (getD ks n 0) (getD ls n 0) ∷ framesIn n ks l
 
 abbrev pub seen : Held → Place
 seen h = record { a = h .a; b = h .b; d = dirOf (h .direction); fs = framesIn (h .count) (h .kinds) (h .labels) }
+
+-- ---- a test for `Plain` (`plain-of`): the struct holds the place seen in it, of at most 1,104 frames
+unfoldable pub sameList : List ℕ → List ℕ → Bool
+sameList [] [] = true
+sameList [] (y ∷ ys) = false
+sameList (x ∷ xs) [] = false
+sameList (x ∷ xs) (y ∷ ys) = cond (eqb x y) (sameList xs ys) false
+
+unfoldable pub plainOf : Held → Bool
+plainOf h =
+    cond (leb (h .count) 1104)
+    (cond (eqb (h .direction) (held (seen h) .direction))
+    (cond (sameList (h .kinds) (held (seen h) .kinds)) (sameList (h .labels) (held (seen h) .labels)) false) false) false
