@@ -7,12 +7,12 @@ use lib.ListN.{length, getD}
 use Rattle.program.specs.Records.{kind}
 use Rattle.program.specs.Trees.{Tree, procedures, recordsOf}
 use Rattle.program.specs.Walk.{offsets}
-use Rattle.machine.specs.Labels.{at, head}
-use Rattle.machine.specs.Edges.{Frame, frameKind, frameLabel}
-use Rattle.machine.specs.Places.{down, up}
-use Rattle.machine.proofs.Linked.{Con, ifL, elseL, fiL, fromL, loopL, untilL, Prog}
-use Rattle.machine.proofs.Rows.{prog}
-use Rattle.machine.proofs.Gaps.{tip}
+use Rattle.moves.specs.Labels.{at, head}
+use Rattle.moves.specs.Edges.{Frame, frameKind, frameLabel}
+use Rattle.moves.specs.Places.{down, up}
+use Rattle.moves.proofs.Linked.{Con, ifL, elseL, fiL, fromL, loopL, untilL, Prog}
+use Rattle.moves.proofs.Rows.{prog}
+use Rattle.moves.proofs.Gaps.{tip}
 
 -- Record x is one of the three of the construct c.
 pub data Part (P : Prog) (c : Con) (x : ℕ) : Type 0 where
