@@ -2,6 +2,7 @@
 
 use crate::calls::read_session;
 use crate::check::{check, MAX_FILE};
+use crate::examples;
 use crate::machine::{run, run_back, Run};
 use crate::number::Refusal;
 use crate::place::{Direction, Place};
@@ -18,7 +19,7 @@ use std::process::ExitCode;
 
 pub const USAGE: &str = "usage: second run | check FILE | start FILE SESSION [down|up] | \
 step FILE SESSION [N] | back FILE SESSION [N] | set FILE SESSION CELL VALUE | \
-show FILE SESSION | vectors NAME | expect NAME | walks SEED COUNT";
+show FILE SESSION | vectors NAME | expect NAME | walks SEED COUNT | examples DIR";
 
 /// The steps that `run` makes at most.
 const RUN_STEPS: u32 = 1_000_000;
@@ -78,6 +79,7 @@ enum Command {
     Vectors(Family),
     Expect(Family),
     Walks(u32, u32),
+    Examples(PathBuf),
 }
 
 impl Command {
@@ -107,6 +109,7 @@ impl Command {
             ("vectors", [family]) => Command::Vectors(Family::named(family.to_str()?)?),
             ("expect", [family]) => Command::Expect(Family::named(family.to_str()?)?),
             ("walks", [seed, count]) => Command::Walks(natural(seed)?, natural(count)?),
+            ("examples", [folder]) => Command::Examples(folder.into()),
             _ => return None,
         })
     }
@@ -123,6 +126,7 @@ impl Command {
             Command::Vectors(family) => Ok(family.cases()),
             Command::Expect(family) => expect(*family),
             Command::Walks(seed, count) => walk(*seed, *count),
+            Command::Examples(folder) => write_examples(folder),
         }
     }
 }
@@ -190,6 +194,24 @@ fn walk(seed: u32, count: u32) -> Result<String, Trouble> {
         missing if missing.is_empty() => Ok(tally.to_string()),
         missing => Err(Trouble::NeverMet(missing)),
     }
+}
+
+/// Each example's file in a folder that is there; prints their names.
+fn write_examples(folder: &Path) -> Result<String, Trouble> {
+    let files = examples::all()
+        .into_iter()
+        .map(|example| (example.file_name(), example.tree.encode()));
+    write_files(folder, files.collect())
+}
+
+fn write_files(folder: &Path, files: Vec<(String, Vec<u8>)>) -> Result<String, Trouble> {
+    let mut text = String::new();
+    for (name, bytes) in files {
+        let path = folder.join(&name);
+        std::fs::write(&path, bytes).map_err(|reason| file_trouble(&path, reason))?;
+        text += &format!("{name}\n");
+    }
+    Ok(text)
 }
 
 fn check_file(file: &Path) -> Result<String, Trouble> {
