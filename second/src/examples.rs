@@ -432,8 +432,8 @@ pub fn run_length() -> Example {
     )
 }
 
-/// The whole square root, the first Janus program (Lutz and Derby, 1982): `double` is called to
-/// find a power of two beyond the root, and uncalled to come down from it.
+/// The whole square root, a classic of Janus: `double` is called to find a power of two beyond the
+/// root, and uncalled to come down from it.
 ///
 /// ```text
 /// num += 2000

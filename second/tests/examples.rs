@@ -12,8 +12,10 @@ use std::fs;
 use std::path::{Path, PathBuf};
 use std::process::Command;
 
-/// Name, steps made down from zeros, reason, and the cells that are not 0.
-const STOPS: [(&str, u32, u8, &[(usize, i32)]); 11] = [
+/// Name, steps made down from zeros, reason, and the cells that are not 0 (none told where many).
+type Stop = (&'static str, u32, u8, &'static [(usize, i32)]);
+
+const STOPS: [Stop; 11] = [
     ("counter", 12, 30, &[(0, 3), (1, 3)]),
     ("fibonacci", 97, 30, &[(1, 89), (2, 144)]),
     ("filter", 398, 30, &[]),
@@ -100,12 +102,10 @@ fn the_filter_is_lossless_on_any_samples() {
         bench.store[2..19].copy_from_slice(&samples);
         // What `record` adds comes off again, so that the samples are the ones given.
         assert_eq!(bench.run(1_000_000).1, 30);
-        for i in 0..17 {
-            let added = (200 + 24 * i - i * i + 7 * i % 5) as i32;
-            assert_eq!(
-                bench.store[2 + i as usize].wrapping_sub(added),
-                samples[i as usize]
-            );
+        for (i, sample) in (0..17).zip(samples) {
+            let added = 200 + 24 * i - i * i + 7 * i % 5;
+            let kept = bench.store[2 + i as usize];
+            assert_eq!(kept.wrapping_sub(added), sample);
         }
     }
 }
