@@ -10,6 +10,7 @@ use crate::program::Program;
 use crate::session::Session;
 use crate::vectors::Family;
 use crate::walk::walks;
+use crate::workloads;
 use std::ffi::{OsStr, OsString};
 use std::fmt::Write as _;
 use std::fs::File;
@@ -19,7 +20,8 @@ use std::process::ExitCode;
 
 pub const USAGE: &str = "usage: second run | check FILE | start FILE SESSION [down|up] | \
 step FILE SESSION [N] | back FILE SESSION [N] | set FILE SESSION CELL VALUE | \
-show FILE SESSION | vectors NAME | expect NAME | walks SEED COUNT | examples DIR";
+show FILE SESSION | vectors NAME | expect NAME | walks SEED COUNT | examples DIR | \
+workloads DIR";
 
 /// The steps that `run` makes at most.
 const RUN_STEPS: u32 = 1_000_000;
@@ -80,6 +82,7 @@ enum Command {
     Expect(Family),
     Walks(u32, u32),
     Examples(PathBuf),
+    Workloads(PathBuf),
 }
 
 impl Command {
@@ -110,6 +113,7 @@ impl Command {
             ("expect", [family]) => Command::Expect(Family::named(family.to_str()?)?),
             ("walks", [seed, count]) => Command::Walks(natural(seed)?, natural(count)?),
             ("examples", [folder]) => Command::Examples(folder.into()),
+            ("workloads", [folder]) => Command::Workloads(folder.into()),
             _ => return None,
         })
     }
@@ -127,6 +131,7 @@ impl Command {
             Command::Expect(family) => expect(*family),
             Command::Walks(seed, count) => walk(*seed, *count),
             Command::Examples(folder) => write_examples(folder),
+            Command::Workloads(folder) => write_workloads(folder),
         }
     }
 }
@@ -201,6 +206,13 @@ fn write_examples(folder: &Path) -> Result<String, Trouble> {
     let files = examples::all()
         .into_iter()
         .map(|example| (example.file_name(), example.tree.encode()));
+    write_files(folder, files.collect())
+}
+
+fn write_workloads(folder: &Path) -> Result<String, Trouble> {
+    let files = workloads::all()
+        .into_iter()
+        .map(|workload| (workload.file_name(), workload.tree.encode()));
     write_files(folder, files.collect())
 }
 

@@ -32,3 +32,4 @@ pub mod values;
 pub mod vectors;
 pub mod walk;
 pub mod walk_cases;
+pub mod workloads;
