@@ -229,3 +229,21 @@ fn the_page_shows_the_notation_and_what_run_prints() {
         assert!(page.contains(&size), "{size}");
     }
 }
+
+#[test]
+fn the_workloads_are_the_files_beside_the_rival_and_run_on() {
+    let folder = Path::new(env!("CARGO_MANIFEST_DIR")).join("../speed/workloads");
+    let mut records = vec![];
+    for workload in second::workloads::all() {
+        let file = fs::read(folder.join(workload.file_name())).expect("the file");
+        assert_eq!(file, workload.tree.encode(), "{}", workload.name);
+        records.push(workload.tree.records().len());
+        let mut bench = Bench::down(&workload.tree);
+        let start = bench.place.clone();
+        assert_eq!(bench.run(50_000), (50_000, 0), "{}", workload.name);
+        assert_eq!(bench.run_back(50_000), (50_000, 0), "{}", workload.name);
+        assert_eq!(bench.place, start);
+        assert!(bench.store.iter().all(|cell| *cell == 0));
+    }
+    assert_eq!((records[0], records[4]), (8, 1000));
+}

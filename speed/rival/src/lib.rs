@@ -5,3 +5,4 @@
 pub mod check;
 pub mod machine;
 pub mod table;
+pub mod value;

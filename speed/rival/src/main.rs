@@ -5,6 +5,7 @@
 
 use rival::machine::{run, Place};
 use rival::table::Program;
+use rival::value::MAX_CELLS;
 use std::hint::black_box;
 use std::io::Read;
 use std::process::ExitCode;
@@ -39,7 +40,7 @@ fn usage() -> ExitCode {
 
 fn timed(program: &Program, n: u32, show: bool) {
     let mut place = Place::start();
-    let mut store = vec![0; program.cells];
+    let mut store = [0; MAX_CELLS];
     let before = Instant::now();
     let (steps, reason) = run(black_box(program), &mut place, &mut store, n);
     let seconds = before.elapsed().as_secs_f64();

@@ -29,6 +29,11 @@ pub struct Program {
 }
 
 impl Program {
+    #[inline(always)]
+    pub fn row(&self, label: u16) -> &Row {
+        &self.rows[usize::from(label) & (MAX_RECORDS - 1)]
+    }
+
     pub fn new(bytes: &[u8]) -> Result<Program, Fault> {
         let records = check(bytes)?;
         let (scalars, lengths) = declared(bytes, &records[0]);
