@@ -2,6 +2,7 @@
 
 use crate::calls::read_session;
 use crate::check::{check, MAX_FILE};
+use crate::examples;
 use crate::machine::{run, run_back, Run};
 use crate::number::Refusal;
 use crate::place::{Direction, Place};
@@ -9,6 +10,7 @@ use crate::program::Program;
 use crate::session::Session;
 use crate::vectors::Family;
 use crate::walk::walks;
+use crate::workloads;
 use std::ffi::{OsStr, OsString};
 use std::fmt::Write as _;
 use std::fs::File;
@@ -18,7 +20,8 @@ use std::process::ExitCode;
 
 pub const USAGE: &str = "usage: second run | check FILE | start FILE SESSION [down|up] | \
 step FILE SESSION [N] | back FILE SESSION [N] | set FILE SESSION CELL VALUE | \
-show FILE SESSION | vectors NAME | expect NAME | walks SEED COUNT";
+show FILE SESSION | vectors NAME | expect NAME | walks SEED COUNT | examples DIR | \
+workloads DIR";
 
 /// The steps that `run` makes at most.
 const RUN_STEPS: u32 = 1_000_000;
@@ -78,6 +81,8 @@ enum Command {
     Vectors(Family),
     Expect(Family),
     Walks(u32, u32),
+    Examples(PathBuf),
+    Workloads(PathBuf),
 }
 
 impl Command {
@@ -107,6 +112,8 @@ impl Command {
             ("vectors", [family]) => Command::Vectors(Family::named(family.to_str()?)?),
             ("expect", [family]) => Command::Expect(Family::named(family.to_str()?)?),
             ("walks", [seed, count]) => Command::Walks(natural(seed)?, natural(count)?),
+            ("examples", [folder]) => Command::Examples(folder.into()),
+            ("workloads", [folder]) => Command::Workloads(folder.into()),
             _ => return None,
         })
     }
@@ -123,6 +130,8 @@ impl Command {
             Command::Vectors(family) => Ok(family.cases()),
             Command::Expect(family) => expect(*family),
             Command::Walks(seed, count) => walk(*seed, *count),
+            Command::Examples(folder) => write_examples(folder),
+            Command::Workloads(folder) => write_workloads(folder),
         }
     }
 }
@@ -190,6 +199,31 @@ fn walk(seed: u32, count: u32) -> Result<String, Trouble> {
         missing if missing.is_empty() => Ok(tally.to_string()),
         missing => Err(Trouble::NeverMet(missing)),
     }
+}
+
+/// Each example's file in a folder that is there; prints their names.
+fn write_examples(folder: &Path) -> Result<String, Trouble> {
+    let files = examples::all()
+        .into_iter()
+        .map(|example| (example.file_name(), example.tree.encode()));
+    write_files(folder, files.collect())
+}
+
+fn write_workloads(folder: &Path) -> Result<String, Trouble> {
+    let files = workloads::all()
+        .into_iter()
+        .map(|workload| (workload.file_name(), workload.tree.encode()));
+    write_files(folder, files.collect())
+}
+
+fn write_files(folder: &Path, files: Vec<(String, Vec<u8>)>) -> Result<String, Trouble> {
+    let mut text = String::new();
+    for (name, bytes) in files {
+        let path = folder.join(&name);
+        std::fs::write(&path, bytes).map_err(|reason| file_trouble(&path, reason))?;
+        text += &format!("{name}\n");
+    }
+    Ok(text)
 }
 
 fn check_file(file: &Path) -> Result<String, Trouble> {
