@@ -21,11 +21,6 @@ zeroth = bin 4 (con (pos 1)) (con (pos 0))
 abbrev pub far : Expr
 far = read 0 (con (pos 2))
 
--- * 0 && (1 / 0): 32
-pub and-both : packedWorth (worthIn (bin 8 (con (pos 0)) zeroth)) ≡ pos (2 ^ 32 + 32)
-unfolding eval applyOp
-and-both = refl
-
 -- both errors come in order of evaluation
 pub left-first : worthIn (bin 0 far zeroth) ≡ stop badIndex
 unfolding eval applyOp element
