@@ -19,12 +19,11 @@ use Rattle.place.specs.Places.{Dir, down, up, Frame, inThen, inElse, inD
 use Rattle.place.specs.Slots.{dirNumber, slots, held, Plain, Decides, dirOf, frameOf, framesIn, seen, sameList, plainOf}
 
 -- ---- from the document's place to the struct and back
-dir-back : (d : Dir) → dirOf (dirNumber d) ≡ d
+pub dir-back : (d : Dir) → dirOf (dirNumber d) ≡ d
 dir-back down = refl
 dir-back up = refl
 
 pub frame-back : (f : Frame) → frameOf (frameKind f) (frameLabel f) ≡ f
-unfolding frameKind frameLabel
 frame-back (inThen l) = refl
 frame-back (inElse l) = refl
 frame-back (inDo l) = refl
@@ -58,7 +57,6 @@ held-injective p q e = sym (seen-held p) ∙ ap seen e ∙ seen-held q
 
 -- ---- from the struct to the document's place and back
 pub kind-of : (k l : ℕ) → k ≤ 4 → frameKind (frameOf k l) ≡ k
-unfolding frameKind
 kind-of zero l h = refl
 kind-of (suc zero) l h = refl
 kind-of (suc (suc zero)) l h = refl
@@ -66,7 +64,6 @@ kind-of (suc (suc (suc zero))) l h = refl
 kind-of (suc (suc (suc (suc k)))) l h = omega arith
 
 pub label-of : (k l : ℕ) → frameLabel (frameOf k l) ≡ l
-unfolding frameLabel
 label-of zero l = refl
 label-of (suc zero) l = refl
 label-of (suc (suc zero)) l = refl
@@ -99,7 +96,7 @@ unused s n e h zero-on =
 slots-of : (xs s : List ℕ) (n : ℕ) → length xs ≡ n → reverse xs ≡ take n s → drop n s ≡ replicate (1104 - n) 0 → slots xs ≡ s
 slots-of xs s n l t d = rw (l, t, ← d) (take-append-drop n s)
 
-dir-of : (m : ℕ) → m ≤ 1 → dirNumber (dirOf m) ≡ m
+pub dir-of : (m : ℕ) → m ≤ 1 → dirNumber (dirOf m) ≡ m
 dir-of zero r = refl
 dir-of (suc m) r = omega arith
 
@@ -129,12 +126,11 @@ pub length-slots : (xs : List ℕ) → length xs ≤ 1104 → length (slots xs) 
 length-slots xs h = omega (arith, length-append (reverse xs) (replicate (1104 - length xs) 0), length-reverse xs, length-replicate {A = ℕ} (1104 - length xs) 0)
 
 -- ---- what is so of each struct that holds a place
-dir-small : (d : Dir) → dirNumber d ≤ 1
+pub dir-small : (d : Dir) → dirNumber d ≤ 1
 dir-small down = omega arith
 dir-small up = omega arith
 
-kind-small : (f : Frame) → frameKind f ≤ 4
-unfolding frameKind
+pub kind-small : (f : Frame) → frameKind f ≤ 4
 kind-small (inThen l) = omega arith
 kind-small (inElse l) = omega arith
 kind-small (inDo l) = omega arith
@@ -226,7 +222,7 @@ by true f g = f refl
 by false f g = g refl
 
 -- a struct that holds a place holds the one seen in it
-plain-seen : (h : Held) → Plain h → held (seen h) ≡ h
+pub plain-seen : (h : Held) → Plain h → held (seen h) ≡ h
 plain-seen h y = ap (λ (g : Held). held (seen g)) (y .holds) ∙ ap held (seen-held (y .place)) ∙ sym (y .holds)
 
 pub plain-of : (h : Held) → Decides (plainOf h) (Plain h)

@@ -1,0 +1,4 @@
+-- The definitions of `session`.
+pub mod Session
+pub mod Reader
+pub mod Answers
