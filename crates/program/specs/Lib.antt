@@ -8,3 +8,5 @@ pub mod Reading
 pub mod Check
 pub mod Arrays
 pub mod Stack
+pub mod Links
+pub mod Table
