@@ -16,8 +16,6 @@ pub mod Declared
 pub mod CheckSays
 pub mod ArrayLoops
 pub mod ArrayTree
-pub mod TableCases
-pub mod TableLoops
 pub mod Starred
 pub mod Thirteen
 pub mod Sound

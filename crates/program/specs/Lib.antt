@@ -8,5 +8,3 @@ pub mod Reading
 pub mod Check
 pub mod Arrays
 pub mod Stack
-pub mod Links
-pub mod Table

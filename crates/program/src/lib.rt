@@ -9,7 +9,6 @@ mod arrays;
 mod names;
 mod order;
 mod reading;
-mod table;
 mod walk;
 
 // What the check answers: the counts of records, procedures and cells, or the number of the refusal and the record at fault.
