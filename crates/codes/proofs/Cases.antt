@@ -1,8 +1,7 @@
 -- What the functions of `codes` answer, case by case, over plain numbers and lists. Assumes nothing.
-use mathlib.Core.Path.{_≡_, refl, sym, ap, _∙_}
-use mathlib.Core.List.{List, [], _∷_}
-use Prim.Native.Nat.{ℕ, suc, _+_, _*_, _/_, _%_, _^_, _≤_, _<_}
-use native.Mathlib.Numerals.{add-one}
+use mathlib.Core.Path.{_≡_, sym, ap, _∙_}
+use mathlib.Core.List.{List, []}
+use Prim.Native.Nat.{ℕ, suc, _+_, _*_, _/_, _%_, _≤_, _<_}
 use native.Mathlib.Omega.{arith}
 use borrow.Author.Tests.{le-leb, lt-leb}
 use lib.IntN.{ℤ}
@@ -11,7 +10,7 @@ use lib.Seq.{sets}
 use mir.Syntax.{w32}
 use mir.Val.{SFits, ofZ, toZ}
 use mir.Facts.{toZ-ofZ}
-use Rattle.codes.specs.Codes.{bytes16, bytes32, cellBytes, word16, word32, cellAt, written}
+use Rattle.codes.specs.Codes.{bytes16, cellBytes, word16, word32, cellAt, written}
 
 -- ---- reading: where a byte lies past the end it is 0
 module _ (s : List ℕ) (i : ℕ) where
@@ -24,15 +23,15 @@ module _ (s : List ℕ) (i : ℕ) where
   pub short-out : length s ≤ i → (0 ≡ word16 s i) × (0 < 65536)
   short-out h = (omega (arith, zero-at i h, zero-at (i + 1) (omega arith)), omega arith)
 
-  pub short-cut : (a : ℕ) → length s ≤ i + 1 → a < 256 → a ≡ getD s i 0 → (a ≡ word16 s i) × (a < 65536)
-  short-cut a h k e = (omega (arith, zero-at (i + 1) h), omega arith)
+  pub short-cut : (a : ℕ) → length s < i + 2 → a < 256 → a ≡ getD s i 0 → (a ≡ word16 s i) × (a < 65536)
+  short-cut a h k e = (omega (arith, zero-at (i + 1) (omega arith)), omega arith)
 
   pub bits-out : length s ≤ i → 0 ≡ word32 s i
   bits-out h = omega (arith, zero-at i h, zero-at (i + 1) (omega arith), zero-at (i + 2) (omega arith), zero-at (i + 3) (omega arith))
 
-  pub bits-cut : (a b c : ℕ) → length s ≤ i + 3 → a ≡ getD s i 0 → b ≡ getD s (i + 1) 0 → c ≡ getD s (i + 2) 0
+  pub bits-cut : (a b c : ℕ) → length s < i + 4 → a ≡ getD s i 0 → b ≡ getD s (i + 1) 0 → c ≡ getD s (i + 2) 0
       → a + 256 * b + 65536 * c ≡ word32 s i
-  bits-cut a b c h p q r = omega (arith, zero-at (i + 3) h)
+  bits-cut a b c h p q r = omega (arith, zero-at (i + 3) (omega arith))
 
   pub long-is : (x : ℕ) (v : ℤ) → x ≡ word32 s i → v ≡ toZ w32 x → SFits w32 v → toZ w32 (ofZ w32 v) ≡ cellAt s i
   long-is x v p q f = toZ-ofZ f ∙ q ∙ ap (toZ w32) p
@@ -58,22 +57,22 @@ three-on : (i : ℕ) → i + 3 ≡ suc (suc (suc i))
 three-on i = omega arith
 
 module _ (s : List ℕ) (at : ℕ) where
-  pub put-two : (v : ℕ) → at + 1 < length s → set (set s at (v % 256)) (at + 1) (v / 256 % 256) ≡ written s at (bytes16 v)
+  pub put-two : (v : ℕ) → at + 2 ≤ length s → set (set s at (v % 256)) (at + 1) (v / 256 % 256) ≡ written s at (bytes16 v)
   put-two v h = rw (written-in s at (bytes16 v) (omega arith), one-on at)
 
-  pub put-four : (u : ℕ) (v : ℤ) → at + 3 < length s → SFits w32 v → u ≡ ofZ w32 (toZ w32 (ofZ w32 v))
+  pub put-four : (u : ℕ) (v : ℤ) → at + 4 ≤ length s → SFits w32 v → u ≡ ofZ w32 (toZ w32 (ofZ w32 v))
       → set (set (set (set s at (u % 256)) (at + 1) (u / 256 % 256)) (at + 2) (u / 65536 % 256)) (at + 3) (u / 16777216 % 256) ≡ written s at (cellBytes v)
   put-four u v h f e =
       let z : u ≡ ofZ w32 v = e ∙ ap (ofZ w32) (toZ-ofZ f) in
       rw (written-in s at (cellBytes v) (omega arith), one-on at, two-on at, three-on at, z)
 
-  pub no-two : (v : ℕ) → length s ≤ at + 1 → s ≡ written s at (bytes16 v)
+  pub no-two : (v : ℕ) → length s < at + 2 → s ≡ written s at (bytes16 v)
   no-two v h = sym (written-out s at (bytes16 v) (omega arith))
 
   pub no-two-out : (v : ℕ) → length s ≤ at → s ≡ written s at (bytes16 v)
   no-two-out v h = no-two v (omega arith)
 
-  pub no-four : (v : ℤ) → length s ≤ at + 3 → s ≡ written s at (cellBytes v)
+  pub no-four : (v : ℤ) → length s < at + 4 → s ≡ written s at (cellBytes v)
   no-four v h = sym (written-out s at (cellBytes v) (omega arith))
 
   pub no-four-out : (v : ℤ) → length s ≤ at → s ≡ written s at (cellBytes v)

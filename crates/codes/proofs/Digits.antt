@@ -1,8 +1,8 @@
 -- Two and four digits of base 256: from a number to its bytes and back. Assumes nothing.
 --     number16, number32    the number of a number's bytes is that number
 --     digits16, digits32    the bytes of a number made of bytes are those bytes
-use mathlib.Core.Path.{_≡_, refl, ap, _∙_, subst}
-use mathlib.Core.List.{List, [], _∷_}
+use mathlib.Core.Path.{_≡_}
+use mathlib.Core.List.{[], _∷_}
 use Prim.Native.Nat.{ℕ, _+_, _*_, _/_, _%_, _^_, _<_}
 use native.Mathlib.Omega.{arith}
 use Rattle.codes.specs.Codes.{bytes16, bytes32}

@@ -23,7 +23,8 @@ pub fn short(s: &[u8], i: usize) -> usize
     ensures { λ r. ⌜ (r ≡ word16 (now (s .entry)) i) × (r < 2 ^ 16) ⌝ }
 {
     if i < s.len() {
-        if i + 1 < s.len() {
+        // the bound is no index that is read, so that the two reads become one load
+        if i + 2 <= s.len() {
             return wide(s[i]) + 256 * wide(s[i + 1]);
         }
         return wide(s[i]);
@@ -36,8 +37,7 @@ fn bits(s: &[u8], i: usize) -> u32
     ensures { λ r. ⌜ r ≡ word32 (now (s .entry)) i ⌝ }
 {
     if i < s.len() {
-        // one test, then four plain reads that compile to one load
-        if i + 3 < s.len() {
+        if i + 4 <= s.len() {
             return (wide(s[i])
                 + 256 * wide(s[i + 1])
                 + 65536 * wide(s[i + 2])
@@ -60,7 +60,7 @@ pub fn put_short(buf: &mut [u8], at: usize, v: u16)
     ensures { λ _. ⌜ now (buf .exit) ≡ written (now (buf .entry)) at (bytes16 v) ⌝ }
 {
     if at < buf.len() {
-        if at + 1 < buf.len() {
+        if at + 2 <= buf.len() {
             buf[at] = (v % 256) as u8;
             buf[at + 1] = (v / 256 % 256) as u8;
         }
@@ -72,7 +72,7 @@ pub fn put_long(buf: &mut [u8], at: usize, v: i32)
     ensures { λ _. ⌜ now (buf .exit) ≡ written (now (buf .entry)) at (cellBytes v) ⌝ }
 {
     if at < buf.len() {
-        if at + 3 < buf.len() {
+        if at + 4 <= buf.len() {
             let u = values::to_bits(v);
             buf[at] = (u % 256) as u8;
             buf[at + 1] = (u / 256 % 256) as u8;

@@ -2,23 +2,24 @@
 -- Assumes nothing.
 --     eval-names     stores that are the same at every name that occurs give the same worth
 --     eval-keeps     so a name that does not occur may change: what a SET needs to be undone
+--     eval-set       and so may a cell that only that name has
 --     eval-agree     arrays that are the same at every number give the same worth
 --     eval-fits      cells and constants in an i32's range give a value in that range
 use mathlib.Core.Path.{_≡_, refl, sym, ap, ap₂, _∙_}
 use mathlib.Core.List.{List}
 use mathlib.Core.Logic.{_⊎_, inl, inr, ⊎-elim}
-use mathlib.Core.Bool.{Bool, true, false, cond, _||_, _&&_, false≢true}
-use Prim.Native.Nat.{ℕ, _+_, _≤_, _<_}
-use native.Mathlib.Omega.{arith}
+use mathlib.Core.Bool.{Bool, true, false, cond, _||_, false≢true}
+use Prim.Native.Nat.{ℕ, _+_}
 use borrow.Author.Tests.{eq-eqb, eqb-true, ltb-true}
 use lib.Dec.{eqb, ltb}
 use lib.IntN.{ℤ, pos, negsuc}
-use lib.ListN.{getD}
+use lib.ListN.{getD, set}
+use lib.Seq.{getD-set-other}
 use mir.Syntax.{w32}
 use mir.Val.{SFits}
 use Rattle.values.specs.Values.{Value, is, zeroDivisor, applyOp, InRange}
 use Rattle.values.proofs.Laws.{apply-fits}
-use Rattle.expr.specs.Tree.{Expr, con, var, read, bin, Valid, Arrays, Fault, badIndex, Worth, value, stop, worthOf, both, element, indexed, eval, Name, scalar, array, isScalar, isArray, occurs, known, Same, There}
+use Rattle.expr.specs.Tree.{Expr, con, var, read, bin, Valid, Arrays, badIndex, Worth, value, stop, worthOf, both, element, indexed, eval, Name, scalar, array, isArray, occurs, known, There, Same, Apart}
 use Rattle.expr.specs.Answers.{InCell}
 use Rattle.expr.proofs.Layer.{and-true}
 
@@ -62,6 +63,10 @@ which : (a b : Bool) → (a || b) ≡ true → (a ≡ true) ⊎ (b ≡ true)
 which true b e = inl refl
 which false b e = inr e
 
+set-same : (m : Name) (layout : Arrays) (σ : List ℤ) (cell : ℕ) (v : ℤ) → Apart m layout cell → Same m layout (set σ cell v) σ
+set-same (scalar x) layout σ cell v d = getD-set-other σ cell x v (pos 0) d
+set-same (array a) layout σ cell v d = λ i h. getD-set-other σ cell (getD (layout .starts) a 0 + i) v (pos 0) (d i h)
+
 module _ (scalars arrays : ℕ) where
   -- a name that occurs in an expression whose names are there is there
   pub occurs-there : (m : Name) (e : Expr) → known scalars arrays e ≡ true → occurs m e ≡ true → There scalars arrays m
@@ -81,6 +86,12 @@ module _ (scalars arrays : ℕ) where
       → ((m : Name) → There scalars arrays m → (m ≡ n → ⊥) → Same m layout σ τ) → eval layout σ e ≡ eval layout τ e
   eval-keeps n e layout σ τ k none same =
       eval-names layout σ τ e (λ m o. same m (occurs-there m e k o) (λ q. false≢true (sym none ∙ ap (λ (m : Name). occurs m e) (sym q) ∙ o)))
+
+  -- a cell that only that name can have changes nothing
+  pub eval-set : (n : Name) (e : Expr) (layout : Arrays) (σ : List ℤ) (cell : ℕ) (v : ℤ) → known scalars arrays e ≡ true → occurs n e ≡ false
+      → ((m : Name) → There scalars arrays m → (m ≡ n → ⊥) → Apart m layout cell) → eval layout (set σ cell v) e ≡ eval layout σ e
+  eval-set n e layout σ cell v k none apart =
+      eval-keeps n e layout (set σ cell v) σ k none (λ m t d. set-same m layout σ cell v (apart m t d))
 
 -- ---- the arrays
 module _ (A B : Arrays) (σ : List ℤ) (starts : (a : ℕ) → getD (A .starts) a 0 ≡ getD (B .starts) a 0)

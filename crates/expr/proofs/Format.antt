@@ -6,15 +6,15 @@
 --     says, determined     `EndSays` holds of one answer, that of the reader
 use mathlib.Core.Path.{_≡_, refl, sym, ap, _∙_}
 use mathlib.Core.List.{List, [], _∷_, _++_, append-assoc}
-use mathlib.Core.Bool.{Bool, true, false, _&&_, false≢true}
-use Prim.Native.Nat.{ℕ, zero, suc, _+_, _-_, _≤_, _<_, max}
+use mathlib.Core.Bool.{Bool, true, false, false≢true}
+use Prim.Native.Nat.{ℕ, zero, suc, _+_, _-_, _≤_, _<_}
 use native.Mathlib.Nat.{le-refl, add-assoc}
 use native.Mathlib.Omega.{arith}
 use lib.ListN.{length, getD, drop, length-append, length-drop}
 use lib.Seq.{drop-drop, drop-append-seam}
 use lib.Dec.{eqb, ltb, leb}
 use borrow.Author.Tests.{le-leb, leb-true, lt-ltb, ltb-true, eqb-true, eq-eqb}
-use Rattle.codes.specs.Codes.{bytes16, cellBytes, word16, cellAt, AllBytes}
+use Rattle.codes.specs.Codes.{bytes16, word16, AllBytes}
 use Rattle.codes.proofs.Rows.{one-byte, two-bytes, byte-of, head-of, short-lt, cell-fits, short-bytes, cell-bytes, short-back, cell-back}
 use Rattle.expr.specs.Tree.{Expr, con, var, read, bin, depth, Valid, encode}
 use Rattle.expr.specs.Bytes.{Stands, Got, parse, whole, layer, gotCon, gotVar, gotRead, gotBin}

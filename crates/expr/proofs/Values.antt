@@ -1,11 +1,11 @@
 -- The answers of `element_at`, `value_at`, `read_at` and `worth`, case by case, over plain numbers and lists. Assumes nothing.
 use mathlib.Core.Path.{_≡_, refl, sym, ap, _∙_}
 use mathlib.Core.List.{List}
-use mathlib.Core.Bool.{Bool, true, false, false≢true, true≢false}
+use mathlib.Core.Bool.{true, false, false≢true, true≢false}
 use Prim.Native.Nat.{ℕ, _+_, _-_, _^_, _≤_, _<_}
-use native.Mathlib.Nat.{add-comm, add-assoc}
+use native.Mathlib.Nat.{add-comm}
 use native.Mathlib.Omega.{arith}
-use borrow.Author.Tests.{lt-ltb, le-ltb, ltb-true, ltb-false}
+use borrow.Author.Tests.{lt-ltb, le-ltb, ltb-true}
 use lib.Dec.{ltb}
 use lib.IntN.{ℤ, pos, negsuc}
 use lib.ListN.{length, getD, take, drop, length-take, List·getD-eq-default}
@@ -218,16 +218,16 @@ module _ (A : List ℕ) (C : List ℤ) (s : List ℕ) (left at : ℕ) where
 pub ruleset evaluations = (value-none, value-out, value-con, value-var, value-read, left-stop, right-stop, value-bin)
 
 -- ---- the whole: a refusal puts the position back
-module _ (w : Worth) (next : ℕ) (r : ℤ) (after : ℕ) (o : OnTheWay w next r after) (f : SFits w64 r) where
-  pub says-stop : (at : ℕ) → ltZ (pos 2147483647) (again64 r) ≡ true → WorthSays w at next (again64 r) at
+module _ (A : List ℕ) (C : List ℤ) (g : Got) (r : ℤ) (after : ℕ) (o : OnTheWay (worthAt A C g) (g .next) r after) (f : SFits w64 r) where
+  pub says-stop : (at : ℕ) → ltZ (pos 2147483647) (again64 r) ≡ true → WorthSays A C at g (again64 r) at
   says-stop at t =
-      let s = told-stop w next r after o f t in
-      record { answer = toZ-ofZ f ∙ o .answer; range = o .range; place = sym (ap (λ (w : Worth). movedTo w at next) (s .1 .0)) }
+      let s = told-stop (worthAt A C g) (g .next) r after o f t in
+      record { answer = toZ-ofZ f ∙ o .answer; range = o .range; place = sym (ap (λ (w : Worth). movedTo w at (g .next)) (s .1 .0)) }
 
-  pub says-value : (at : ℕ) → ltZ (pos 2147483647) (again64 r) ≡ false → WorthSays w at next (again64 r) after
+  pub says-value : (at : ℕ) → ltZ (pos 2147483647) (again64 r) ≡ false → WorthSays A C at g (again64 r) after
   says-value at t =
-      let s = told-value w next r after o f t in
-      record { answer = toZ-ofZ f ∙ o .answer; range = o .range; place = s .1 .1 ∙ sym (ap (λ (w : Worth). movedTo w at next) (s .0)) }
+      let s = told-value (worthAt A C g) (g .next) r after o f t in
+      record { answer = toZ-ofZ f ∙ o .answer; range = o .range; place = s .1 .1 ∙ sym (ap (λ (w : Worth). movedTo w at (g .next)) (s .0)) }
 
 pub ruleset worths = (says-stop, says-value)
 

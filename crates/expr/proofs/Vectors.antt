@@ -1,11 +1,11 @@
 -- Document 01's line on `&&`, and others that tell one reading from another, by computation. Assumes nothing.
 use mathlib.Core.Path.{_≡_, refl}
-use mathlib.Core.List.{List, [], _∷_}
+use mathlib.Core.List.{[], _∷_}
 use mathlib.Core.Bool.{true, false}
 use Prim.Native.Nat.{ℕ, zero, suc, _+_, _^_}
-use lib.IntN.{ℤ, pos, negsuc}
+use lib.IntN.{pos, negsuc}
 use Rattle.values.specs.Values.{applyOp}
-use Rattle.expr.specs.Tree.{Expr, con, var, read, bin, depth, encode, Arrays, element, eval, Worth, value, stop, byZero, badIndex, scalar, array, occurs}
+use Rattle.expr.specs.Tree.{Expr, con, var, read, bin, depth, encode, element, eval, Worth, value, stop, byZero, badIndex, scalar, array, occurs}
 use Rattle.expr.specs.Bytes.{parse, layer}
 use Rattle.expr.specs.Answers.{packedWorth, endOf}
 use Rattle.expr.specs.declared.End.the-variants.{At, Bad}

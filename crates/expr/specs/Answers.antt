@@ -70,13 +70,13 @@ pub record Packs (w : Worth) (r : ℤ) : Type 0 where
   pub answer : r ≡ packedWorth w
   pub range : InCell w
 
--- the answer r for a tree that is worth w, read at `at` and ending at `next`, and the position afterwards
-pub record WorthSays (w : Worth) (at next : ℕ) (r : ℤ) (after : ℕ) : Type 0 where
-  pub answer : r ≡ packedWorth w
-  pub range : InCell w
-  pub place : after ≡ movedTo w at next
+-- the answer r for what was read at `at`, and the position afterwards
+pub record WorthSays (arrays : List ℕ) (cells : List ℤ) (at : ℕ) (g : Got) (r : ℤ) (after : ℕ) : Type 0 where
+  pub answer : r ≡ packedWorth (worthAt arrays cells g)
+  pub range : InCell (worthAt arrays cells g)
+  pub place : after ≡ movedTo (worthAt arrays cells g) at (g .next)
 
--- the same on the way, where a refusal may leave the position anywhere
+-- on the way, for a worth w that ends at `next`: a refusal may leave the position anywhere
 pub record OnTheWay (w : Worth) (next : ℕ) (r : ℤ) (after : ℕ) : Type 0 where
   pub answer : r ≡ packedWorth w
   pub range : InCell w

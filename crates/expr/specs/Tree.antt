@@ -117,3 +117,8 @@ There scalars arrays (array a) = a < arrays
 abbrev pub Same : Name → Arrays → List ℤ → List ℤ → Type 0
 Same (scalar x) arrays σ τ = getD σ x (pos 0) ≡ getD τ x (pos 0)
 Same (array a) arrays σ τ = (i : ℕ) → i < getD (arrays .lengths) a 0 → getD σ (getD (arrays .starts) a 0 + i) (pos 0) ≡ getD τ (getD (arrays .starts) a 0 + i) (pos 0)
+
+-- a cell that is none of the name's
+abbrev pub Apart : Name → Arrays → ℕ → Type 0
+Apart (scalar x) arrays cell = x ≡ cell → ⊥
+Apart (array a) arrays cell = (i : ℕ) → i < getD (arrays .lengths) a 0 → getD (arrays .starts) a 0 + i ≡ cell → ⊥

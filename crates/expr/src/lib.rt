@@ -150,7 +150,7 @@ fn read_at(s: &[u8], at: &mut usize, left: usize, cells: &[i32], arrays: &[u16; 
 
 // What the expression at `*at` is worth, read to the depth 16. `*at` is moved behind it, or stays where it is refused.
 pub fn worth(s: &[u8], at: &mut usize, cells: &[i32], arrays: &[u16; 32]) -> i64
-    ensures { λ r. ⌜ WorthSays (worthAt (now (arrays .entry)) (now (cells .entry)) (parse 16 (now (s .entry)) (now (at .entry)))) (now (at .entry)) (parse 16 (now (s .entry)) (now (at .entry)) .next) r (now (at .exit)) ⌝ }
+    ensures { λ r. ⌜ WorthSays (now (arrays .entry)) (now (cells .entry)) (now (at .entry)) (parse 16 (now (s .entry)) (now (at .entry))) r (now (at .exit)) ⌝ }
 {
     let start = *at;
     let r = value_at(s, at, 16, cells, arrays);

@@ -3,15 +3,15 @@
 --     asked-wrong, wrong-asked    any other number: `Wrong` says it, and the other way
 --     encode-unique               bytes start with one formed record at most
 use mathlib.Core.Path.{_≡_, refl, sym, ap, _∙_}
-use mathlib.Core.List.{List, [], _∷_, _++_}
-use mathlib.Core.Bool.{Bool, true, false, cond, _||_, true≢false, false≢true}
+use mathlib.Core.List.{List, _++_}
+use mathlib.Core.Bool.{Bool, true, false, cond, _||_, true≢false}
 use mathlib.Core.Logic.{_⊎_, inl, inr, ⊎-elim}
-use Prim.Native.Nat.{ℕ, zero, suc, _+_, _-_, _*_, _^_, _≤_, _<_, max}
+use Prim.Native.Nat.{ℕ, _+_, _^_, _≤_, _<_}
 use native.Mathlib.Nat.{add-zero, add-assoc}
 use native.Mathlib.Omega.{arith}
-use borrow.Author.Tests.{ltb-true, ltb-false, lt-ltb, le-ltb, eqb-true, eqb-false, eq-eqb, ne-eqb}
+use borrow.Author.Tests.{ltb-true, ltb-false, le-ltb, eqb-true, eqb-false, ne-eqb}
 use lib.Dec.{ltb, eqb}
-use lib.ListN.{length, take, drop, getD, length-drop, length-take, take-append-drop, length-append}
+use lib.ListN.{length, drop, length-drop, length-take, take-append-drop}
 use lib.Seq.{getD-drop, take-append-seam}
 use Rattle.codes.specs.Codes.{bytes16, AllBytes}
 use Rattle.codes.proofs.Rows.{short-lt}
@@ -19,9 +19,9 @@ use Rattle.program.specs.Records.{Record, kind, body, encodeRecord, Form
 use Rattle.program.specs.Says.{word, Cut, Unknown, Starts, Wrong, cut, unknown, malformed, oversize}
 use Rattle.program.specs.Walk.{stride, kindAt}
 use Rattle.program.specs.Reading.{stop, recordAt, formedAt, sizedAt, cutAt, unknownAt, wrongAt}
-use Rattle.program.proofs.Bytes.{Lies, lies-short, lies-join, after, front-rest}
+use Rattle.program.proofs.Bytes.{Lies, lies-short, lies-join, front-rest}
 use Rattle.program.proofs.Offsets.{kind-small, size-of, word-is, kind-is, next-is, room-is}
-use Rattle.program.proofs.Sound.{Body, sound-body, or-cases}
+use Rattle.program.proofs.Sound.{sound-body}
 use Rattle.program.proofs.Complete.{complete-body}
 use Rattle.program.proofs.Sizes.{in-size, size-in}
 

@@ -1,19 +1,18 @@
 -- What the functions of `walk` and `reading` answer, case by case, over plain numbers and lists.
-use mathlib.Core.Path.{_≡_, refl, sym, ap, _∙_}
-use mathlib.Core.List.{List, [], _∷_}
+use mathlib.Core.Path.{_≡_, refl, sym, _∙_}
+use mathlib.Core.List.{List}
 use mathlib.Core.Bool.{Bool, true, false, cond, _&&_, and-false}
-use mathlib.Core.Logic.{_⊎_, inl, inr, ⊎-elim}
-use Prim.Native.Nat.{ℕ, zero, suc, _+_, _-_, _*_, _^_, _≤_, _<_}
+use Prim.Native.Nat.{ℕ, suc, _+_, _-_, _*_, _≤_, _<_}
 use native.Mathlib.Nat.{add-zero, add-assoc}
 use native.Mathlib.Omega.{arith}
-use borrow.Author.Tests.{lt-ltb, le-ltb, le-leb, lt-leb, eq-eqb, ne-eqb}
+use borrow.Author.Tests.{lt-ltb, le-ltb, le-leb, lt-leb, ne-eqb}
 use lib.Dec.{eqb, ltb, leb}
 use lib.ListN.{length, getD, List·getD-eq-default}
-use Rattle.expr.specs.Bytes.{Got, parse}
+use Rattle.expr.specs.Bytes.{Got}
 use Rattle.expr.specs.Answers.{endOf, pickEnd}
 use Rattle.expr.specs.declared.End.{End}
 use Rattle.expr.specs.declared.End.the-variants.{At, Bad}
-use Rattle.expr.proofs.Layer.{parse-step, layer-out}
+use Rattle.expr.proofs.Layer.{parse-out}
 use Rattle.program.specs.Records.{isBegin, sum}
 use Rattle.program.specs.Says.{word}
 use Rattle.program.specs.Walk.{kindAt}
@@ -29,7 +28,7 @@ module _ (f : List ℕ) where
   kind-out at h = (sym (word-out (at + 2) (omega arith)), omega arith)
 
   expr-out : (i : ℕ) → length f ≤ i → exprAt f i .ok ≡ false
-  expr-out i h = rw (parse-step 16 f i (λ e. omega arith), layer-out _ f i h)
+  expr-out i h = rw (parse-out 16 f i h)
 
 -- ---- where an expression ends
 pub end-at : (g : Got) (e : End) (n : ℕ) → e ≡ At n → e ≡ endOf g → (g .ok ≡ true) × (g .next ≡ n)

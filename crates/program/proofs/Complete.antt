@@ -1,17 +1,16 @@
 -- The bytes of a formed record are found right, and read as that record. One law for each form of a body.
-use mathlib.Core.Path.{_≡_, refl, sym, ap, _∙_}
-use mathlib.Core.List.{List, [], _∷_, _++_, append-assoc}
-use mathlib.Core.Bool.{Bool, true, false}
-use Prim.Native.Nat.{ℕ, zero, suc, _+_, _*_, _^_, _≤_, _<_}
+use mathlib.Core.Path.{_≡_, refl, ap, _∙_}
+use mathlib.Core.List.{List, _∷_, _++_, append-assoc}
+use mathlib.Core.Bool.{true}
+use Prim.Native.Nat.{ℕ, _+_, _*_, _^_, _<_}
 use native.Mathlib.Omega.{arith}
 use borrow.Author.Tests.{eq-eqb, lt-ltb}
 use lib.ListN.{length, drop, getD, length-append}
 use Rattle.codes.specs.Codes.{bytes16}
 use Rattle.codes.proofs.Rows.{short-back, head-of, byte-of}
 use Rattle.expr.specs.Tree.{Expr, encode}
-use Rattle.expr.specs.Bytes.{Got}
 use Rattle.expr.proofs.Format.{complete}
-use Rattle.program.specs.Records.{Record, Target, cell, entry, names, begin, end, set, if, else, fi, from, loop, until, call, uncall, skip, kind, body, words, Shorts, Formed, Plain, encodeTarget}
+use Rattle.program.specs.Records.{Record, Target, cell, entry, names, begin, end, set, if, else, fi, from, loop, until, call, uncall, skip, kind, body, Formed, Plain}
 use Rattle.program.specs.Says.{word}
 use Rattle.program.specs.Reading.{stop, exprAt, testBody, namesBody, setBody, formedAs, recordAs, shortsAt, targetAt, valueAt}
 use Rattle.program.proofs.Bytes.{front-rest, after, length-words, shorts-back}

@@ -24,5 +24,8 @@ pub mod Sizes
 pub mod Asked
 pub mod Walking
 pub mod Cases
+pub mod Records
+pub mod Turns
+pub mod Determined
 pub mod OrderCases
 pub mod OrderWalk

@@ -1,16 +1,16 @@
 -- What the record functions of `order` keep, case by case. Assumes nothing.
 use Prim.Native.Nat.{ℕ, zero, suc, _+_, _-_, _≤_, _<_}
-use mathlib.Core.Path.{_≡_, refl, ap, ap₂, sym, _∙_, subst}
+use mathlib.Core.Path.{_≡_, refl, ap, ap₂, _∙_}
 use mathlib.Core.List.{List, [], _∷_}
 use mathlib.Core.Bool.{Bool, true, false, _||_}
 use mathlib.Core.Logic.{_⊎_, inl, inr}
 use native.Mathlib.Omega.{arith}
 use native.Mathlib.Numerals.{add-one}
 use borrow.Author.Tests.{lt-ltb, le-ltb, eq-eqb, ne-eqb, eqb-false}
-use lib.Dec.{eqb, ltb}
+use lib.Dec.{eqb}
 use lib.ListN.{length, getD, set}
 use lib.Seq.{getD-set-same, getD-set-other}
-use Rattle.program.specs.Order.{State, at, onlyIf, named, begun, ended, passed, opened, turned, closed, innermost, next}
+use Rattle.program.specs.Order.{State, at, named, begun, ended, passed, opened, turned, closed, next}
 use Rattle.program.specs.Stack.{stack, stateOf, Keeps}
 use Rattle.program.specs.declared.order.Open.{Open}
 

@@ -268,7 +268,7 @@ run s [] = s
 run s (k ∷ ks) = run (next s k) ks
 
 pub shape-reads : (rs : List Record) (p : Part) → shape (reads p rs) ≡ run (shape p) (kinds rs)
-unfolding reads run kinds
+unfolding reads run
 shape-reads [] p = refl
 shape-reads (r ∷ rs) p = shape-reads rs (grow p r) ∙ ap (λ s. run s (kinds rs)) (shape-grow p r)
 

@@ -8,12 +8,11 @@ use mathlib.Core.Bool.{Bool, true, false}
 use mathlib.Core.Logic.{_⊎_, inl, inr, ⊎-elim}
 use native.Mathlib.Omega.{arith}
 use borrow.Author.Tests.{lt-ltb, le-ltb, leb-true, leb-false}
-use lib.ListN.{length}
 use lib.Dec.{leb}
 use Rattle.expr.specs.Tree.{Expr}
-use Rattle.program.specs.Records.{Record, names, begin, end, set, call, uncall, skip}
+use Rattle.program.specs.Records.{Record, end, set, call, uncall, skip}
 use Rattle.program.specs.Trees.{Stmt, setS, skipS, callS, uncallS, ifS, fromS, Block, one, _then_, Tree, recordsS, recordsB, recordsP, recordsOf, procedures, openS, openB, openP}
-use Rattle.program.proofs.OrderParts.{opener, middle, closer, construct, Layer, first, second, Part, nothing, dead, between, within, frames, height, app, add, grow, reads, reads-dead, dies}
+use Rattle.program.proofs.OrderParts.{opener, middle, closer, construct, Layer, first, second, Part, nothing, dead, between, within, frames, height, app, add, grow, reads, dies}
 
 add-add : (a : Option Block) (s : Stmt) (b : Block) → add (add a (one s)) b ≡ add a (_then_ s b)
 unfolding add app

@@ -1,6 +1,6 @@
 -- Refusal 6: the check over kinds says what the trees say. A valid order, the first record after which there is none, and one tree only.
 -- Assumes nothing.
-use Prim.Native.Nat.{ℕ, zero, suc, _+_, _-_, _≤_, _<_}
+use Prim.Native.Nat.{ℕ, suc, _+_, _-_, _≤_, _<_}
 use mathlib.Core.Path.{_≡_, refl, ap, sym, _∙_, subst}
 use mathlib.Core.List.{List, [], _∷_, _++_, append-assoc, append-nil}
 use mathlib.Core.Option.{none, some}
@@ -9,10 +9,10 @@ use mathlib.Core.Logic.{_⊎_, inl, inr, ⊎-elim}
 use native.Mathlib.Omega.{arith}
 use lib.ListN.{length, take, drop, take-append-drop}
 use lib.Seq.{take-take, take-length}
-use Rattle.program.specs.Records.{Record, kind}
-use Rattle.program.specs.Trees.{Block, Tree, recordsOf, recordsP, procedures, openP, Ordered, Viable}
+use Rattle.program.specs.Records.{Record}
+use Rattle.program.specs.Trees.{Block, Tree, recordsOf, procedures, openP, Ordered, Viable}
 use Rattle.program.specs.Says.{Misplaced as SaysMisplaced, no-order, too-soon}
-use Rattle.program.specs.Order.{State, at, is, next, kinds, orderFrom, orderOf}
+use Rattle.program.specs.Order.{at, is, kinds, orderFrom, orderOf}
 use Rattle.program.specs.declared.order.Placed.{Placed}
 use Rattle.program.specs.declared.order.Placed.the-variants.{InOrder, Misplaced}
 use Rattle.program.proofs.OrderParts.{Part, nothing, dead, between, within, grow, reads, shape, shape-grow, reads-dead, reads-append}
@@ -107,7 +107,7 @@ later n p r rs live (Misplaced k) (inl h) = inl (record { past = suc (h .past); 
 later n p r rs live (Misplaced k) (inr h) = inr (record { counts = omega (arith, h .counts); live = h .live; unfinished = h .unfinished })
 
 outcome : (rs : List Record) (n : ℕ) (p : Part) → (p ≡ dead → ⊥) → Outcome n p rs (orderFrom n (shape p) (kinds rs))
-unfolding orderFrom kinds reads
+unfolding orderFrom reads
 outcome [] n p live = at-end n p live (is (shape p) 2) refl
 outcome (r ∷ rs) n p live = subst (λ s. Outcome n p (r ∷ rs) (cond (is s 5) (Misplaced n) (orderFrom (suc n) s (kinds rs)))) (shape-grow p r)
     (go (is (shape (grow p r)) 5) refl (λ l. outcome rs (suc n) (grow p r) l))

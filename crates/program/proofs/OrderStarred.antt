@@ -1,6 +1,6 @@
 -- Document 01's lines about the order of records, by computation.
 use mathlib.Core.Path.{_≡_, refl}
-use mathlib.Core.List.{List, [], _∷_, _++_}
+use mathlib.Core.List.{[], _∷_, _++_}
 use lib.ListN.{replicate}
 use Rattle.program.specs.Order.{orderOf, orderFrom, next}
 use Rattle.program.specs.declared.order.Placed.the-variants.{InOrder, Misplaced}

@@ -11,7 +11,7 @@ use Rattle.expr.specs.Tree.{Expr, con}
 use Rattle.program.specs.Records.{Record, names, begin, end, set, if, else, fi, from, loop, until, call, uncall, skip}
 use Rattle.program.specs.Trees.{Stmt, setS, skipS, callS, uncallS, ifS, fromS, Block, one, _then_, recordsS, recordsB, recordsP}
 use Rattle.program.specs.Order.{at}
-use Rattle.program.proofs.OrderParts.{opener, middle, closer, construct, Layer, first, second, Part, nothing, dead, between, within, frames, height, app, add, onNames, onBegin, onEnd, onPlain, onOpen, onTurn, onClose, grow, grow-dead, reads, shape}
+use Rattle.program.proofs.OrderParts.{opener, middle, closer, construct, Layer, first, second, Part, nothing, dead, between, within, height, app, add, onNames, onBegin, onEnd, onPlain, onOpen, onTurn, onClose, grow, grow-dead, reads, shape}
 use Rattle.program.proofs.OrderReads.{turns, closes}
 
 unfoldable pub textA : Option Block → List Record

@@ -1,14 +1,14 @@
 -- The loop over a file's records: what is left to be asked, record by record. Assumes nothing.
 use Prim.Native.Nat.{ℕ, zero, suc, _+_, _-_, _≤_, _<_, min}
-use mathlib.Core.Path.{_≡_, refl, ap, sym, _∙_, subst}
+use mathlib.Core.Path.{_≡_, refl, ap, sym, _∙_}
 use mathlib.Core.List.{List, [], _∷_}
 use mathlib.Core.Logic.{_⊎_, ⊎-elim}
 use native.Mathlib.Omega.{arith}
 use native.Mathlib.Numerals.{add-one}
-use borrow.Author.Tests.{lt-ltb, le-ltb, eq-eqb, ne-eqb}
+use borrow.Author.Tests.{lt-ltb, le-ltb, ne-eqb}
 use lib.ListN.{length}
 use Rattle.program.specs.Walk.{stride, kindAt, offsets, offsetsFrom, kindsAt}
-use Rattle.program.specs.Order.{State, at, next, orderFrom, orderOf}
+use Rattle.program.specs.Order.{at, next, orderFrom, orderOf}
 use Rattle.program.specs.Stack.{stack, stateOf, Keeps}
 use Rattle.program.specs.declared.order.Open.{Open}
 use Rattle.program.specs.declared.order.Placed.{Placed}

@@ -1,8 +1,8 @@
 -- The sizes as tests and as facts: the two agree.
 use mathlib.Core.Path.{_≡_, refl}
 use mathlib.Core.List.{List, [], _∷_}
-use mathlib.Core.Bool.{Bool, true, false, _&&_}
-use Prim.Native.Nat.{ℕ, suc, _+_, _≤_, _<_}
+use mathlib.Core.Bool.{Bool, true, _&&_}
+use Prim.Native.Nat.{ℕ, _+_, _≤_, _<_}
 use borrow.Author.Tests.{ltb-true, lt-ltb, leb-true, le-leb}
 use lib.Dec.{leb, ltb}
 use lib.ListN.{length}

@@ -1,22 +1,20 @@
 -- A body that is found right is that of a record: it is formed, and its bytes fill the body. One law for each form of a body.
-use mathlib.Core.Path.{_≡_, refl, sym, ap, _∙_}
+use mathlib.Core.Path.{_≡_, refl}
 use mathlib.Core.List.{List, [], _∷_, _++_}
-use mathlib.Core.Bool.{Bool, true, false, _&&_, _||_}
-use Prim.Native.Nat.{ℕ, zero, suc, _+_, _*_, _^_, _≤_, _<_}
-use native.Mathlib.Nat.{add-assoc}
+use mathlib.Core.Bool.{Bool, true, false, _||_}
+use Prim.Native.Nat.{ℕ, _+_, _*_, _^_, _≤_, _<_}
 use native.Mathlib.Omega.{arith}
-use borrow.Author.Tests.{eqb-true, eqb-false, ltb-true}
+use borrow.Author.Tests.{eqb-true, ltb-true}
 use lib.Dec.{eqb, ltb}
-use lib.ListN.{length, drop, getD}
+use lib.ListN.{length, getD}
 use Rattle.codes.specs.Codes.{bytes16, AllBytes}
 use Rattle.codes.proofs.Rows.{short-lt}
 use Rattle.expr.specs.Tree.{encode}
-use Rattle.expr.specs.Bytes.{Stands, parse}
+use Rattle.expr.specs.Bytes.{Stands}
 use Rattle.expr.proofs.Layer.{and-true}
 use Rattle.expr.proofs.Format.{sound}
-use Rattle.program.specs.Records.{Record, names, set, cell, entry, kind, body, words, Formed, Plain}
+use Rattle.program.specs.Records.{Record, names, set, kind, body, words, Formed, Plain}
 use Rattle.program.specs.Says.{word}
-use Rattle.program.specs.Walk.{kindAt}
 use Rattle.program.specs.Reading.{stop, exprAt, fills, shortsAt, targetAt, valueAt, indexed, recordAs, setBody, formedAs}
 use Rattle.program.proofs.Bytes.{Lies, lies-none, lies-of, lies-join, lies-byte, lies-short, lies-shorts, shorts-small, length-shorts}
 use Rattle.program.proofs.Thirteen.{kind-cases}

@@ -1,5 +1,5 @@
 -- The thirteen kinds, for proofs that go by the number of a kind.
-use Prim.Native.Nat.{ℕ, zero, suc, _≤_, _<_}
+use Prim.Native.Nat.{ℕ, zero, suc, _≤_}
 use native.Mathlib.Omega.{arith}
 
 module _

@@ -6,13 +6,13 @@ use mathlib.Core.Path.{_≡_, refl, sym, ap, _∙_}
 use mathlib.Core.List.{List, [], _∷_, _++_, append-assoc, append-nil}
 use mathlib.Core.Bool.{Bool, true, false, cond}
 use Prim.Native.Nat.{ℕ, zero, suc, _+_, _-_, _^_, _≤_, _<_}
-use native.Mathlib.Nat.{add-zero, zero-add, add-assoc}
+use native.Mathlib.Nat.{add-zero, zero-add}
 use native.Mathlib.Omega.{arith}
-use borrow.Author.Tests.{ltb-true, ltb-false, lt-ltb, le-ltb, eqb-true, eqb-false, eq-eqb, ne-eqb}
+use borrow.Author.Tests.{ltb-true, ltb-false, lt-ltb, le-ltb, eqb-true, eqb-false, ne-eqb}
 use lib.Dec.{ltb, eqb}
-use lib.ListN.{length, drop, length-drop, length-append, drop-of-length-le}
+use lib.ListN.{length, drop, length-append, drop-of-length-le}
 use Rattle.codes.specs.Codes.{AllBytes}
-use Rattle.program.specs.Records.{Record, kind, encodeRecord, bytesOf, Formed, FineFrom, begins, isBegin}
+use Rattle.program.specs.Records.{Record, kind, encodeRecord, bytesOf, FineFrom, begins, isBegin}
 use Rattle.program.specs.Says.{Wrong, cut, unknown, malformed, oversize}
 use Rattle.program.specs.Walk.{stride, kindAt}
 use Rattle.program.specs.Reading.{recordAt, wrongAt, walked, walkFrom, walkOf}

@@ -9,9 +9,8 @@ use Rattle.program.specs.Records.{Record, kind}
 use Rattle.program.specs.declared.order.Placed.{Placed}
 use Rattle.program.specs.declared.order.Placed.the-variants.{InOrder, Misplaced}
 
-unfoldable pub kinds : List Record → List ℕ
-kinds [] = []
-kinds (r ∷ rs) = kind r ∷ kinds rs
+abbrev pub kinds : List Record → List ℕ
+kinds rs = map kind rs
 
 -- The phase: 0 NAMES must come; 1 the first BEGIN; 2 BEGIN or the end; in a procedure, 3 a statement must come, 4 may come; 5 no order is valid.
 -- The open constructs, innermost first, as document 01 numbers frames: 0 in IF's s1, 1 in its s2, 2 in FROM's s1, 3 in its s2.

@@ -22,7 +22,7 @@ put-long-spec =
     (λ c. simp length-set (omega arith))
     (λ c. search needs)
     (λ c. search needs)
-    (λ c. search needs)
+    (λ c. simp length-set (omega arith))
     (λ c. search needs)
     (λ c. search writing)
     (λ c. search writing)

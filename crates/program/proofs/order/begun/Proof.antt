@@ -5,4 +5,12 @@ use Rattle.program.proofs.order.begun.Statement.{statement}
 use Rattle.program.proofs.order.begun.Tie as tie
 
 pub begun-spec : {M : Type 1} → statement M
-begun-spec = tie.close (tie.spec (λ c κs. search needs) (λ c. search keeping) (λ c κs. search needs) (λ c. search keeping) (λ c κs. search needs) (λ c. search keeping))
+begun-spec =
+    tie.close
+    (tie.spec
+    (λ c κs. search needs)
+    (λ c. search keeping)
+    (λ c κs. search needs)
+    (λ c. search keeping)
+    (λ c κs. search needs)
+    (λ c. search keeping))

@@ -5,4 +5,16 @@ use Rattle.program.proofs.order.closed.Statement.{statement}
 use Rattle.program.proofs.order.closed.Tie as tie
 
 pub closed-spec : {M : Type 1} → statement M
-closed-spec = tie.close (tie.spec (λ c κs. search needs) (λ c. search keeping) (λ c κs. search needs) (λ c. search keeping) (λ c. search needs) (λ c. search needs) (λ c κs. search needs) (λ c. search keeping) (λ c. search needs) (λ c. search keeping))
+closed-spec =
+    tie.close
+    (tie.spec
+    (λ c κs. search needs)
+    (λ c. search keeping)
+    (λ c κs. search needs)
+    (λ c. search keeping)
+    (λ c. search needs)
+    (λ c. search needs)
+    (λ c κs. search needs)
+    (λ c. search keeping)
+    (λ c. search needs)
+    (λ c. search keeping))

@@ -5,4 +5,10 @@ use Rattle.program.proofs.order.named.Statement.{statement}
 use Rattle.program.proofs.order.named.Tie as tie
 
 pub named-spec : {M : Type 1} → statement M
-named-spec = tie.close (tie.spec (λ c κs. search needs) (λ c. search keeping) (λ c κs. search needs) (λ c. search keeping))
+named-spec =
+    tie.close
+    (tie.spec
+    (λ c κs. search needs)
+    (λ c. search keeping)
+    (λ c κs. search needs)
+    (λ c. search keeping))

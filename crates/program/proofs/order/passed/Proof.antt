@@ -5,4 +5,11 @@ use Rattle.program.proofs.order.passed.Statement.{statement}
 use Rattle.program.proofs.order.passed.Tie as tie
 
 pub passed-spec : {M : Type 1} → statement M
-passed-spec = tie.close (tie.spec (λ c κs. search needs) (λ c. search keeping) (λ c κs. search needs) (λ c. search keeping) (λ c. search keeping))
+passed-spec =
+    tie.close
+    (tie.spec
+    (λ c κs. search needs)
+    (λ c. search keeping)
+    (λ c κs. search needs)
+    (λ c. search keeping)
+    (λ c. search keeping))

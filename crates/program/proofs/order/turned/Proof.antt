@@ -7,5 +7,19 @@ use Rattle.program.proofs.order.turned.Statement.{statement}
 use Rattle.program.proofs.order.turned.Tie as tie
 
 pub turned-spec : {M : Type 1} → statement M
-turned-spec = tie.close (tie.spec (λ c κs. search needs) (λ c. search keeping) (λ c κs. search needs) (λ c. search keeping) (λ c. search needs) (λ c. search needs) (λ c κs. search needs) (λ c. search keeping) (λ c. search needs) (λ c. search needs) (λ c. search needs) (λ c. let s = c .before .before .before .before .before in
+turned-spec =
+    tie.close
+    (tie.spec
+    (λ c κs. search needs)
+    (λ c. search keeping)
+    (λ c κs. search needs)
+    (λ c. search keeping)
+    (λ c. search needs)
+    (λ c. search needs)
+    (λ c κs. search needs)
+    (λ c. search keeping)
+    (λ c. search needs)
+    (λ c. search needs)
+    (λ c. search needs)
+    (λ c. let s = c .before .before .before .before .before in
     turned-yes (s .args .o) (s .args .frame) (simp length-map at (s .good .0 .1 .1 .0 .1 .0 .1)) (omega arith) (omega arith) (omega arith) (omega arith)))

@@ -1,5 +1,4 @@
 -- `reading::calls` meets its contract: the cases of `Cases`.
-use borrow.Author.Needs.{needs}
 use Rattle.program.proofs.Cases.{sorting}
 use Rattle.program.proofs.reading.calls.Statement.{statement}
 use Rattle.program.proofs.reading.calls.Tie as tie

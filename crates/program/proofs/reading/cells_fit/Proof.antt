@@ -1,6 +1,6 @@
 -- `reading::cells_fit` meets its contract: what is left to ask stays the same question. The measure is the lengths that are left.
-use Prim.Native.Nat.{ℕ, _+_, _≤_, _<_, _-_}
-use mathlib.Core.Path.{_≡_, refl, sym, ap, _∙_}
+use Prim.Native.Nat.{_+_, _≤_, _-_}
+use mathlib.Core.Path.{_≡_, _∙_}
 use native.Mathlib.Omega.{arith}
 use Rattle.program.specs.Reading.{cellsFit, shortsAt}
 use Rattle.program.proofs.Cases.{cells-over, cells-none, cells-out, cells-zero, cells-long, cells-step}

@@ -1,5 +1,4 @@
 -- `reading::is_begin` meets its contract: the cases of `Cases`.
-use borrow.Author.Needs.{needs}
 use Rattle.program.proofs.Cases.{is-begin, no-begin}
 use Rattle.program.proofs.reading.is_begin.Statement.{statement}
 use Rattle.program.proofs.reading.is_begin.Tie as tie

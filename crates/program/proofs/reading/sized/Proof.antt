@@ -1,5 +1,4 @@
 -- `reading::sized` meets its contract: the cases of `Cases`.
-use borrow.Author.Needs.{needs}
 use Rattle.program.proofs.Cases.{sizing}
 use Rattle.program.proofs.reading.sized.Statement.{statement}
 use Rattle.program.proofs.reading.sized.Tie as tie

@@ -1,0 +1,79 @@
+-- A step is refused for a reason exactly where the reason's condition holds.
+use Prim.Native.Nat.{ℕ, _≤_}
+use mathlib.Core.Path.{_≡_, refl, sym}
+use mathlib.Core.Bool.{Bool, true, false, not, cond}
+use mathlib.Core.List.{List, [], _∷_}
+use mathlib.Core.Logic.{_⊎_, inl, inr, _↔_, ⊎-elim}
+use lib.Dec.{ltb}
+use native.Mathlib.Omega.{arith}
+use borrow.Author.Tests.{ltb-false, le-ltb}
+use Rattle.program.specs.Trees.{Tree}
+use Rattle.moves.specs.Edges.{Frame, called}
+use Rattle.moves.specs.Places.{Dir, Place, calls, gate}
+use Rattle.moves.specs.Stores.{Reason, atEnd, wrongValue, tooDeep, Answer, ok, no, bind, Store, holds, assigned}
+use Rattle.moves.specs.Step.{Act, assigns, moves, chooses, closes, opens, tests, enters, returns, nothing, after, wanted, again, same, must, returned, perform}
+
+pub ok-no : {A X : Type 0} (a : A) (r : Reason) → _≡_ {A = Answer A} (ok a) (no r) → X
+ok-no a r e = absurd (let z : _≡_ {A = ℕ} 0 1 = cc in let y : ⊥ = omega arith in y)
+
+pub no-no : {A : Type 0} {r r′ : Reason} → _≡_ {A = Answer A} (no r) (no r′) → r ≡ r′
+no-no e = cc
+
+-- ---- by what the step executes
+abbrev pub Refuses : Tree → Act → Dir → List Frame → Store → Reason → Type 0
+Refuses τ (assigns o x e) d fs σ r = assigned τ o x e d σ ≡ no r
+Refuses τ moves d fs σ r = ⊥
+Refuses τ (chooses e h) d fs σ r = holds τ σ e ≡ no r
+Refuses τ (closes e) d fs σ r = (holds τ σ e ≡ no r) ⊎ ((holds τ σ e ≡ ok (not (wanted fs))) × (r ≡ wrongValue))
+Refuses τ (opens e h) d fs σ r = (holds τ σ e ≡ no r) ⊎ ((holds τ σ e ≡ ok (again h fs)) × (r ≡ wrongValue))
+Refuses τ (tests e h) d fs σ r = holds τ σ e ≡ no r
+Refuses τ (enters q d′) d fs σ r = (64 ≤ calls fs) × (r ≡ tooDeep)
+Refuses τ returns d fs σ r = (fs ≡ []) × (r ≡ atEnd)
+Refuses τ nothing d fs σ r = ⊥
+
+bind-no : {A B : Type 0} (a : Answer A) (k : A → B) (r : Reason) → bind a (λ v. ok (k v)) ≡ no r ↔ a ≡ no r
+unfolding bind
+bind-no (ok a) k r = (λ e. ok-no (k a) r e, λ e. ok-no a r e)
+bind-no (no m) k r = (λ e. cc, λ e. cc)
+
+-- A value that must be w.
+must-no : {B : Type 0} (a : Answer Bool) (w : Bool) (x : B) (r : Reason)
+    → bind a (λ v. must (same v w) x) ≡ no r ↔ (a ≡ no r) ⊎ ((a ≡ ok (not w)) × (r ≡ wrongValue))
+unfolding bind
+must-no (ok true) true x r = (λ e. ok-no x r e, ⊎-elim (λ e. ok-no true r e) (λ e. let h = e .0 in cc))
+must-no (ok true) false x r = (λ e. inr (refl, cc), ⊎-elim (λ e. ok-no true r e) (λ e. let h = e .1 in cc))
+must-no (ok false) true x r = (λ e. inr (refl, cc), ⊎-elim (λ e. ok-no false r e) (λ e. let h = e .1 in cc))
+must-no (ok false) false x r = (λ e. ok-no x r e, ⊎-elim (λ e. ok-no false r e) (λ e. let h = e .0 in cc))
+must-no (no m) w x r = (λ e. inl (cc), ⊎-elim (λ e. cc) (λ e. ok-no (not w) m (sym (e .0))))
+
+open-no : {B : Type 0} (a : Answer Bool) (k : Bool) (x y : B) (r : Reason)
+    → bind a (λ v. cond k (must (not v) x) (must v y)) ≡ no r ↔ (a ≡ no r) ⊎ ((a ≡ ok k) × (r ≡ wrongValue))
+unfolding bind
+open-no (ok true) true x y r = (λ e. inr (refl, cc), ⊎-elim (λ e. ok-no true r e) (λ e. let h = e .1 in cc))
+open-no (ok true) false x y r = (λ e. ok-no y r e, ⊎-elim (λ e. ok-no true r e) (λ e. let h = e .0 in cc))
+open-no (ok false) true x y r = (λ e. ok-no x r e, ⊎-elim (λ e. ok-no false r e) (λ e. let h = e .0 in cc))
+open-no (ok false) false x y r = (λ e. inr (refl, cc), ⊎-elim (λ e. ok-no false r e) (λ e. let h = e .1 in cc))
+open-no (no m) k x y r = (λ e. inl (cc), ⊎-elim (λ e. cc) (λ e. ok-no k m (sym (e .0))))
+
+deep-no : {A : Type 0} (b : Bool) (x : A) (r : Reason) → cond b (ok x) (no tooDeep) ≡ no r ↔ (b ≡ false) × (r ≡ tooDeep)
+deep-no true x r = (λ e. ok-no x r e, λ h. let k = h .0 in cc)
+deep-no false x r = (λ e. (refl, cc), λ h. let k = h .1 in cc)
+
+return-no : (τ : Tree) (d : Dir) (fs : List Frame) (σ : Store) (r : Reason) → returned τ d fs σ ≡ no r ↔ (fs ≡ []) × (r ≡ atEnd)
+unfolding returned
+return-no τ d [] σ r = (λ e. (refl, cc), λ h. let k = h .1 in cc)
+return-no τ d (f ∷ F) σ r = (λ e. ok-no _ r e, λ h. let k = h .0 in cc)
+
+pub perform-no : (τ : Tree) (α : Act) (p : Place) (σ : Store) (r : Reason) → perform τ α p σ ≡ no r ↔ Refuses τ α (p .d) (p .frames) σ r
+unfolding perform
+perform-no τ (assigns o x e) p σ r = bind-no (assigned τ o x e (p .d) σ) _ r
+perform-no τ moves p σ r = (λ e. ok-no _ r e, λ h. absurd h)
+perform-no τ (chooses e h) p σ r = bind-no (holds τ σ e) _ r
+perform-no τ (closes e) p σ r = must-no (holds τ σ e) (wanted (p .frames)) _ r
+perform-no τ (opens e h) p σ r = open-no (holds τ σ e) (again h (p .frames)) _ _ r
+perform-no τ (tests e h) p σ r = bind-no (holds τ σ e) _ r
+perform-no τ (enters q d) p σ r =
+    let k = deep-no {A = Place × Store} (ltb (calls (p .frames)) 64) (after τ (gate τ q d) d (called (p .b) ∷ p .frames), σ) r in
+    (λ e. let h = k .0 e in (ltb-false _ _ (h .0), h .1), λ h. k .1 (le-ltb _ _ (h .0), h .1))
+perform-no τ returns p σ r = return-no τ (p .d) (p .frames) σ r
+perform-no τ nothing p σ r = (λ e. ok-no _ r e, λ h. absurd h)

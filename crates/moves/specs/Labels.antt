@@ -1,0 +1,74 @@
+-- Document 01, 'Labels, places, moves': which record has which label, and which records belong together.
+use Prim.Native.Nat.{ℕ, zero, suc, _+_, pred}
+use mathlib.Core.List.{List, [], _∷_, _++_}
+use lib.ListN.{getD}
+use Rattle.program.specs.Records.{Record, names}
+use Rattle.program.specs.Trees.{Stmt, setS, skipS, callS, uncallS, ifS, fromS, Block, one, _then_, Tree, procedures, recordsOf}
+
+-- "A record's label is its number in the file, from 0."
+abbrev pub at : Tree → ℕ → Record
+at t x = getD (recordsOf t) x (names 0 [])
+
+-- How many records a statement, and a row of statements, has.
+unfoldable mutual
+  pub sizeS : Stmt → ℕ
+  sizeS (setS o t e) = 1
+  sizeS skipS = 1
+  sizeS (callS q) = 1
+  sizeS (uncallS q) = 1
+  sizeS (ifS e s t e′) = suc (sizeB s + suc (sizeB t + 1))
+  sizeS (fromS e s t e′) = suc (sizeB s + suc (sizeB t + 1))
+
+  pub sizeB : Block → ℕ
+  sizeB (one s) = sizeS s
+  sizeB (_then_ s b) = sizeS s + sizeB b
+
+-- "The entry of a statement is its own label, or IF, or FROM; its exit its own label, or FI, or UNTIL."
+-- The entry is the statement's first label n.
+abbrev pub exit : Stmt → ℕ → ℕ
+exit s n = pred (n + sizeS s)
+
+-- The label of the ELSE or LOOP, and of the FI or UNTIL, of a construct whose IF or FROM is n.
+abbrev pub middle : ℕ → Block → ℕ
+middle n s = suc n + sizeB s
+
+abbrev pub ending : ℕ → Block → Block → ℕ
+ending n s t = suc (middle n s) + sizeB t
+
+-- For each record the label of the IF or FROM of the construct that it is a part of; 0 for a record that is a part of none.
+unfoldable mutual
+  pub headsS : Stmt → ℕ → List ℕ
+  headsS (setS o t e) n = 0 ∷ []
+  headsS skipS n = 0 ∷ []
+  headsS (callS q) n = 0 ∷ []
+  headsS (uncallS q) n = 0 ∷ []
+  headsS (ifS e s t e′) n = n ∷ (headsB s (suc n) ++ (n ∷ (headsB t (suc (middle n s)) ++ (n ∷ []))))
+  headsS (fromS e s t e′) n = n ∷ (headsB s (suc n) ++ (n ∷ (headsB t (suc (middle n s)) ++ (n ∷ []))))
+
+  pub headsB : Block → ℕ → List ℕ
+  headsB (one s) n = headsS s n
+  headsB (_then_ s b) n = headsS s n ++ headsB b (n + sizeS s)
+
+unfoldable pub headsP : List Block → ℕ → List ℕ
+headsP [] n = []
+headsP (b ∷ bs) n = 0 ∷ (headsB b (suc n) ++ (0 ∷ headsP bs (suc (suc n + sizeB b))))
+
+abbrev pub head : Tree → ℕ → ℕ
+head t x = getD (0 ∷ headsP (procedures t) 1) x 0
+
+-- The labels of the BEGIN and of the END of procedure q, of the procedures bs that stand from label n on.
+unfoldable pub beginFrom : List Block → (n q : ℕ) → ℕ
+beginFrom [] n q = 1
+beginFrom (b ∷ bs) n zero = n
+beginFrom (b ∷ bs) n (suc q) = beginFrom bs (suc (suc n + sizeB b)) q
+
+unfoldable pub endFrom : List Block → (n q : ℕ) → ℕ
+endFrom [] n q = 0
+endFrom (b ∷ bs) n zero = suc n + sizeB b
+endFrom (b ∷ bs) n (suc q) = endFrom bs (suc (suc n + sizeB b)) q
+
+abbrev pub beginOf : Tree → ℕ → ℕ
+beginOf t q = beginFrom (procedures t) 1 q
+
+abbrev pub endOf : Tree → ℕ → ℕ
+endOf t q = endFrom (procedures t) 1 q

@@ -1,0 +1,52 @@
+-- Document 01, 'Labels, places, moves': places, and which of them fit a program.
+use Prim.Native.Nat.{ℕ, suc, _≤_}
+use mathlib.Core.List.{List, [], _∷_, _++_, List·Memᴰ}
+use mathlib.Core.Logic.{_⊎_}
+use mathlib.Core.Path.{_≡_}
+use mathlib.Core.Bool.{cond}
+use lib.Dec.{eqb}
+pub use Rattle.place.specs.Places.{Dir, down, up, opp, Place, turn}
+use Rattle.program.specs.Records.{call, uncall}
+use Rattle.program.specs.Trees.{Tree}
+use Rattle.moves.specs.Labels.{at, beginOf, endOf}
+use Rattle.moves.specs.Edges.{Frame, called, frameKind, Edge, edges}
+
+-- Where an edge comes from and where it goes to, in a direction: "Upward edges are these reversed."
+abbrev pub near : Edge → Dir → ℕ
+near e down = e .a
+near e up = e .b
+
+abbrev pub far : Edge → Dir → ℕ
+far e d = near e (opp d)
+
+-- How many of the frames are calls.
+abbrev pub calls : List Frame → ℕ
+calls [] = 0
+calls (f ∷ F) = cond (eqb (frameKind f) 4) (suc (calls F)) (calls F)
+
+-- The frames outside procedure q: none "in main"; else the call of the record that q was entered by, an edge that comes down to it
+-- lying in the constructs that enclose it, and "likewise below each call those that enclose the calling record"; that record lies
+-- "in the procedure that the next call outward names, or in main where there is none".
+pub data Outer (t : Tree) : ℕ → List Frame → Type 0 where
+  in-main : Outer t 0 []
+  entered : {q : ℕ} {e : Edge} {F : List Frame} → List·Memᴰ e (edges t) → (at t (e .b) ≡ call q) ⊎ (at t (e .b) ≡ uncall q)
+      → Outer t (e .proc) F → Outer t q (called (e .b) ∷ (e .within ++ F))
+
+-- "A place fits when"
+pub record Fits (t : Tree) (p : Place) : Type 0 where
+  pub edge : Edge
+  pub outside : List Frame
+  -- "(a, b) is an edge of d"
+  pub on : List·Memᴰ edge (edges t)
+  pub from : near edge (p .d) ≡ p .a
+  pub to : far edge (p .d) ≡ p .b
+  -- "the frames down to the first call are exactly the constructs that enclose the edge, likewise below each call"
+  pub framed : p .frames ≡ edge .within ++ outside
+  pub outer : Outer t (edge .proc) outside
+  -- "and at most 64 frames are calls"
+  pub few : calls (p .frames) ≤ 64
+
+-- The label that a procedure is entered by in a direction, and left by in the opposite one.
+abbrev pub gate : Tree → ℕ → Dir → ℕ
+gate t q down = beginOf t q
+gate t q up = endOf t q

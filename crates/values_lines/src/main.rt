@@ -1,0 +1,97 @@
+// Reads lines `OP LEFT RIGHT` and writes `value V` or `zero` for each: the operators held to the second program's answers.
+ghost use Prim.Native.Nat.{_≤_, _<_};
+ghost use lib.ListN.{length};
+use libc::STDIN_FILENO;
+use libc::STDOUT_FILENO;
+
+// The position after i, within the slice.
+fn past(s: &[u8], i: usize) -> usize {
+    if i < s.len() { i + 1 } else { i }
+}
+
+fn operator(v: u64) -> u8 {
+    if v < 16 { v as u8 } else { 15 }
+}
+
+// The nearest i32.
+fn cell(v: i64) -> i32 {
+    if v < -2147483648 {
+        return -2147483648;
+    }
+    if v > 2147483647 {
+        return 2147483647;
+    }
+    v as i32
+}
+
+// What the operator gives on the line at `at`.
+fn given(s: &[u8], at: usize) -> i64 {
+    let op = words::read_digits(s, at);
+    let left = words::read_signed(s, past(s, op.next));
+    let right = words::read_signed(s, past(s, left.next));
+    values::apply(operator(op.value), cell(left.value), cell(right.value))
+}
+
+// The two ways of writing, with what the caller needs of them: the position stays within.
+fn word(out: &mut [u8], at: usize, w: &[u8]) -> usize
+    requires { ⌜ at ≤ length (now out) ⌝ }
+    ensures { λ r. ⌜ r ≤ length (now (out .exit)) ⌝ }
+{
+    words::put_bytes(out, at, w)
+}
+
+fn number(out: &mut [u8], at: usize, v: i64) -> usize
+    requires { ⌜ at ≤ length (now out) ⌝ }
+    ensures { λ r. ⌜ r ≤ length (now (out .exit)) ⌝ }
+{
+    words::put_signed(out, at, v)
+}
+
+// One answer line at `at`, and the position after it.
+fn answer(out: &mut [u8], at: usize, v: i64) -> usize
+    requires { ⌜ at ≤ length (now out) ⌝ }
+    ensures { λ r. ⌜ r ≤ length (now (out .exit)) ⌝ }
+{
+    if v > 2147483647 {
+        return word(out, at, b"zero\n");
+    }
+    let named = word(out, at, b"value ");
+    let end = number(out, named, v);
+    word(out, end, b"\n")
+}
+
+// The end of the line at `at`.
+fn line_end(s: &[u8], at: usize) -> usize
+    requires { ⌜ at < length (now s) ⌝ }
+    ensures { λ r. ⌜ (at ≤ r) × (r ≤ length (now (s .entry))) ⌝ }
+{
+    let mut i = at;
+    while i < s.len() {
+        if s[i] == b'\n' {
+            return i;
+        }
+        i += 1;
+    }
+    i
+}
+
+// All answer lines from the front of out on, and the position after them.
+fn answers(s: &[u8], out: &mut [u8]) -> usize
+    ensures { λ r. ⌜ r ≤ length (now (out .exit)) ⌝ }
+{
+    let mut at: usize = 0;
+    let mut end: usize = 0;
+    while at < s.len() {
+        end = answer(out, end, given(s, at));
+        at = line_end(s, at) + 1;
+    }
+    end
+}
+
+fn main() {
+    let mut input = io::large_buffer();
+    let n = io::read_full(STDIN_FILENO, &mut input);
+    let mut out = io::large_buffer();
+    let end = answers(&input[..n], &mut out);
+    io::write_all(STDOUT_FILENO, &out[..end]);
+}

@@ -1,0 +1,2 @@
+-- The definitions that the contracts of `words` cite.
+pub mod Words
