@@ -1,4 +1,4 @@
--- The edges that document 01, 'Values', names, by computation. Its starred lines stand in `program`, as one table.
+-- The edges that document 01, 'Values', names, as one table. Its starred lines stand in program/proofs/Starred.
 use mathlib.Core.Path.{_≡_, refl}
 use mathlib.Core.List.{List, [], _∷_}
 use Prim.Native.Nat.{ℕ}

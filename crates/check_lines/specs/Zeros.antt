@@ -1,0 +1,12 @@
+-- So many zeros, under a name that stays shut, so that no goal counts them one by one.
+use Prim.Native.Nat.{ℕ}
+use mathlib.Core.Path.{_≡_}
+use mathlib.Core.List.{List}
+use lib.ListN.{length, replicate, length-replicate}
+
+unfoldable pub zeros : ℕ → List ℕ
+zeros n = replicate n 0
+
+pub length-zeros : (n : ℕ) → length (zeros n) ≡ n
+unfolding zeros
+length-zeros n = length-replicate n 0
