@@ -170,7 +170,7 @@ module _ (τ : Tree) (w : Wf τ (prog τ)) where
       let a = back-of n σ so in
       let b = back-of m σ′ so′ in
       let b′ = subst⁻¹ (λ q. Steps (stepBack τ) (run τ m (start τ d) σ′ .steps) q (run τ n (start τ d) σ .store) (start τ d) σ′) ep
-            (subst⁻¹ (λ q. Steps (stepBack τ) (run τ m (start τ d) σ′ .steps) (run τ m (start τ d) σ′ .place) q (start τ d) σ′) es b) in
+      (subst⁻¹ (λ q. Steps (stepBack τ) (run τ m (start τ d) σ′ .steps) (run τ m (start τ d) σ′ .place) q (start τ d) σ′) es b) in
       same-end (stepBack τ) a b′ atEnd atEnd (start-refused τ w d σ) (start-refused τ w d σ′)
     where
       back-of : (n : ℕ) (σ : Store) → Sized τ σ

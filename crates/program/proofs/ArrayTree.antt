@@ -1,16 +1,14 @@
 -- The table of the arrays of an accepted file holds where each array of the tree starts and how long it is, and zeros beyond.
 use mathlib.Core.Path.{_≡_, refl, sym, ap, _∙_}
 use mathlib.Core.List.{List, [], _∷_, _++_, append-assoc}
-use Prim.Native.Nat.{ℕ, zero, suc, _+_, _*_, _-_, _%_, _^_, _≤_, _<_, min}
-use native.Mathlib.Nat.{add-zero, add-assoc}
+use Prim.Native.Nat.{ℕ, zero, suc, _+_, _-_, _%_, _≤_, min}
 use native.Mathlib.Omega.{arith}
 use lib.ListN.{length, getD, take, drop, replicate, length-append, length-replicate, replicate-append-replicate}
 use lib.Seq.{sets, sets-eq, take-at, drop-at, drop-drop}
 use Rattle.program.specs.Records.{InSize, sum}
 use Rattle.program.specs.Trees.{Tree, recordsOf}
-use Rattle.program.specs.Says.{word, Accepts}
-use Rattle.program.specs.Reading.{shortsAt}
-use Rattle.program.specs.Arrays.{arrayCount, startsFrom, arraysAt}
+use Rattle.program.specs.Says.{Accepts}
+use Rattle.program.specs.Arrays.{startsFrom, arraysAt}
 use Rattle.program.proofs.Declared.{Declares, declares}
 
 -- the exact starts, with no bound on the numbers

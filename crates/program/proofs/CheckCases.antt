@@ -1,8 +1,8 @@
 -- The answers of the check, case by case: what each `return` knows gives what the definition says.
-use mathlib.Core.Path.{_≡_, refl, sym, ap, _∙_}
+use mathlib.Core.Path.{_≡_}
 use mathlib.Core.List.{List}
-use mathlib.Core.Bool.{Bool, true, false}
-use Prim.Native.Nat.{ℕ, _+_, _≤_, _<_}
+use mathlib.Core.Bool.{true, false}
+use Prim.Native.Nat.{ℕ, _≤_, _<_}
 use lib.ListN.{length}
 use borrow.Author.Tests.{lt-ltb, le-ltb}
 use Rattle.program.specs.Says.{word}
@@ -10,7 +10,7 @@ use Rattle.program.specs.Walk.{offsets, kindsAt}
 use Rattle.program.specs.Reading.{walkOf}
 use Rattle.program.specs.Order.{orderOf}
 use Rattle.program.specs.Names.{passes, firstNot}
-use Rattle.program.specs.Check.{cellsOf, named, afterOwn, afterThere, afterOrder, afterWalk, checkOf}
+use Rattle.program.specs.Check.{cellsOf, afterOwn, afterThere, afterOrder, afterWalk, checkOf}
 use Rattle.program.specs.declared.Walked.{Walked}
 use Rattle.program.specs.declared.Walked.the-variants.{Fine, Faulty}
 use Rattle.program.specs.declared.order.Placed.{Placed}

@@ -3,24 +3,24 @@
 --     determined        so the answer is determined
 --     accepted-tree     accepted exactly if the file is that of a tree, and its counts are the tree's
 --     accepts-unique    that tree is unique
-use mathlib.Core.Path.{_≡_, refl, sym, ap, subst, _∙_}
+use mathlib.Core.Path.{_≡_, refl, sym, ap, _∙_}
 use mathlib.Core.List.{List, [], _∷_, _++_, map}
 use mathlib.Core.Logic.{_↔_}
 use mathlib.Core.Bool.{Bool, true, false, cond}
-use Prim.Native.Nat.{ℕ, zero, suc, _+_, _^_, _≤_, _<_}
+use Prim.Native.Nat.{ℕ, _+_, _^_, _≤_, _<_}
 use native.Mathlib.Nat.{zero-add}
 use native.Mathlib.Omega.{arith}
 use borrow.Author.Tests.{lt-ltb, le-ltb, ltb-true, ltb-false}
 use lib.Dec.{ltb}
-use lib.ListN.{length, getD, drop}
+use lib.ListN.{length, getD}
 use Rattle.codes.specs.Codes.{AllBytes}
-use Rattle.program.specs.Records.{Record, names, begin, end, set, if, else, fi, from, loop, until, call, uncall, skip, kind, body, encodeRecord, bytesOf, Formed, FineFrom, begins, there, sum}
+use Rattle.program.specs.Records.{Record, skip, kind, begins}
 use Rattle.program.specs.Trees.{Stmt, setS, skipS, callS, uncallS, ifS, fromS, Block, one, _then_, Tree, recordsS, recordsB, recordsP, recordsOf, procedures, cells, Ordered}
-use Rattle.program.specs.Says.{word, Rows, All, FirstNot, thereIn, free, Accepts, Says, too-long, in-turn, order, not-there, own-name, accepted}
+use Rattle.program.specs.Says.{word, Rows, All, thereIn, free, Accepts, Says, too-long, in-turn, order, not-there, own-name, accepted}
 use Rattle.program.specs.Walk.{offsets, kindsAt}
-use Rattle.program.specs.Reading.{shortsAt, walkOf}
+use Rattle.program.specs.Reading.{walkOf}
 use Rattle.program.specs.Order.{kinds, orderOf}
-use Rattle.program.specs.Names.{passes, firstNot}
+use Rattle.program.specs.Names.{passes}
 use Rattle.program.specs.Check.{cellsOf, named, afterOwn, afterThere, afterOrder, afterWalk, checkOf}
 use Rattle.program.specs.declared.Walked.{Walked}
 use Rattle.program.specs.declared.Walked.the-variants.{Fine, Faulty}

@@ -1,10 +1,10 @@
 -- What the first record of an ordered row, NAMES, declares, read from the file's first bytes.
-use mathlib.Core.Path.{_≡_, refl, sym, ap, subst, _∙_}
-use mathlib.Core.List.{List, [], _∷_, _++_}
-use Prim.Native.Nat.{ℕ, _+_}
+use mathlib.Core.Path.{_≡_, sym, ap, subst, _∙_}
+use mathlib.Core.List.{List, _++_}
+use Prim.Native.Nat.{ℕ}
 use lib.ListN.{length, drop}
 use Rattle.codes.proofs.Rows.{short-back}
-use Rattle.program.specs.Records.{Record, names, kind, body, encodeRecord, bytesOf, Formed, InSize, FineFrom, sum}
+use Rattle.program.specs.Records.{Record, names, kind, body, encodeRecord, bytesOf, Formed, InSize, FineFrom}
 use Rattle.program.specs.Trees.{Tree, recordsP, recordsOf, procedures, Ordered}
 use Rattle.program.specs.Says.{word, Rows}
 use Rattle.program.specs.Reading.{shortsAt}

@@ -1,16 +1,15 @@
 -- Where a record stands in a file, the tests of refusals 7 and 8 on the bytes are the document's tests of that record.
-use mathlib.Core.Path.{_≡_, refl, sym, ap, _∙_}
-use mathlib.Core.List.{List, [], _∷_, _++_, append-assoc}
-use mathlib.Core.Bool.{Bool, true, false, cond, not, _&&_, _||_}
-use Prim.Native.Nat.{ℕ, zero, suc, _+_, _^_, _≤_, _<_}
-use native.Mathlib.Omega.{arith}
+use mathlib.Core.Path.{_≡_, refl, ap, _∙_}
+use mathlib.Core.List.{List, _++_, append-assoc}
+use mathlib.Core.Bool.{true, false, not, _&&_, _||_}
+use Prim.Native.Nat.{ℕ, _+_, _^_, _<_}
 use lib.ListN.{length, getD, drop}
 use lib.Dec.{ltb, eqb}
 use Rattle.codes.proofs.Rows.{byte-of, short-back}
 use Rattle.expr.specs.Tree.{Expr, encode, known, occurs, scalar, array}
 use Rattle.expr.specs.Bytes.{Stands, Got, whole}
 use Rattle.expr.proofs.Format.{got, whole-of}
-use Rattle.program.specs.Records.{Target, cell, entry, Record, names, begin, end, set, if, else, fi, from, loop, until, call, uncall, skip, kind, body, encodeRecord, Plain, PlainTarget, Formed, there, thereTarget, own, ownTarget}
+use Rattle.program.specs.Records.{cell, entry, Record, names, begin, end, set, if, else, fi, from, loop, until, call, uncall, skip, kind, body, encodeRecord, Plain, Formed, there, own}
 use Rattle.program.specs.Says.{word, free}
 use Rattle.program.specs.Walk.{kindAt}
 use Rattle.program.specs.Reading.{tests, calls}

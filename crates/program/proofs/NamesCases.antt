@@ -1,15 +1,15 @@
 -- The answers of the functions of `names`, case by case: what each `return` knows gives what the definition says.
-use mathlib.Core.Path.{_≡_, refl, sym, ap, _∙_}
-use mathlib.Core.List.{List, [], _∷_}
-use mathlib.Core.Bool.{Bool, true, false, cond, not, _&&_, _||_}
-use Prim.Native.Nat.{ℕ, zero, suc, _+_, _≤_, _<_}
+use mathlib.Core.Path.{_≡_, sym, ap, _∙_}
+use mathlib.Core.List.{List}
+use mathlib.Core.Bool.{Bool, true, false, not}
+use Prim.Native.Nat.{ℕ, _+_, _≤_, _<_}
 use native.Mathlib.Omega.{arith}
-use lib.ListN.{length, getD}
-use lib.Dec.{ltb, eqb}
-use borrow.Author.Tests.{lt-ltb, le-ltb, eq-eqb, ne-eqb}
+use lib.ListN.{getD}
+use lib.Dec.{ltb}
+use borrow.Author.Tests.{lt-ltb, le-ltb, ne-eqb}
 use Rattle.expr.specs.Tree.{known, occurs, scalar, array}
 use Rattle.expr.specs.Bytes.{whole}
-use Rattle.expr.specs.Answers.{knownOf, seenOf, nameOf}
+use Rattle.expr.specs.Answers.{knownOf, seenOf}
 use Rattle.expr.specs.declared.Known.{Known}
 use Rattle.expr.specs.declared.Seen.{Seen}
 use Rattle.program.specs.Says.{word}

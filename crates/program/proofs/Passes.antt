@@ -1,15 +1,15 @@
 -- A pass over the records of a row finds what the document says: the first record of which a test says no, or none.
 use mathlib.Core.Path.{_≡_, refl, sym, ap, _∙_}
-use mathlib.Core.List.{List, [], _∷_, _++_}
+use mathlib.Core.List.{List, [], _∷_}
 use mathlib.Core.Bool.{Bool, true, false, cond}
-use Prim.Native.Nat.{ℕ, zero, suc, _+_, _^_, _≤_, _<_}
-use native.Mathlib.Nat.{add-zero, add-suc}
+use Prim.Native.Nat.{ℕ, zero, suc, _+_, _^_, _<_}
+use native.Mathlib.Nat.{add-zero}
 use native.Mathlib.Omega.{arith}
 use lib.ListN.{length, getD}
-use Rattle.program.specs.Records.{Record, skip, bytesOf, Formed, FineFrom, there}
+use Rattle.program.specs.Records.{Record, skip, Formed, FineFrom, there}
 use Rattle.program.specs.Says.{FirstNot, All, Rows, free}
 use Rattle.program.specs.Walk.{offsets}
-use Rattle.program.specs.Names.{thereAt, freeAt, passes, firstFrom, firstNot}
+use Rattle.program.specs.Names.{thereAt, freeAt, firstFrom, firstNot}
 use Rattle.program.specs.declared.names.First.{First}
 use Rattle.program.specs.declared.names.First.the-variants.{Nowhere, At}
 use Rattle.program.proofs.Offsets.{offsets-of, record-at, short-is}

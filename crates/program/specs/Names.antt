@@ -1,7 +1,7 @@
 -- Refusals 7 and 8 on the bytes of a file: what the record at a position names, and the first of the records that a test says no of.
 use Prim.Native.Nat.{ℕ, suc, _+_}
 use mathlib.Core.List.{List, [], _∷_}
-use mathlib.Core.Bool.{Bool, true, false, cond, not, _&&_, _||_}
+use mathlib.Core.Bool.{Bool, true, cond, not, _&&_, _||_}
 use lib.ListN.{getD}
 use lib.Dec.{ltb, eqb}
 use Rattle.expr.specs.Tree.{Expr, known, occurs, scalar, array}

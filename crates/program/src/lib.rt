@@ -5,11 +5,11 @@ use names::First;
 use names::first_not;
 use order::Placed;
 
-mod arrays;
+pub mod arrays;
 mod names;
 mod order;
 mod reading;
-mod walk;
+pub mod walk;
 
 // What the check answers: the counts of records, procedures and cells, or the number of the refusal and the record at fault.
 pub enum Checked {

@@ -1,8 +1,7 @@
 -- `program::cells` meets its contract. The invariant: the total and what is left of the lengths are the cells, and the total is small.
 use mathlib.Core.Path.{_≡_}
-use Prim.Native.Nat.{ℕ, _+_, _*_, _-_, _^_, _≤_, _<_}
+use Prim.Native.Nat.{_+_, _*_, _-_, _^_, _≤_, _<_}
 use native.Mathlib.Omega.{arith}
-use lib.ListN.{length}
 use Rattle.program.specs.Check.{cellsOf}
 use Rattle.program.proofs.CellSums.{left, start, one-more, done}
 use Rattle.program.proofs.cells.Statement.{statement}

@@ -1,16 +1,12 @@
 -- `program::arrays::put_lengths` meets its contract. The invariant: what is left to put gives the whole.
 use mathlib.Core.Path.{_≡_}
-use Prim.Native.Nat.{ℕ, _+_, _*_, _-_, _≤_, _<_}
+use Prim.Native.Nat.{_+_, _-_, _≤_}
 use native.Mathlib.Omega.{arith}
 use borrow.Author.Needs.{needs}
-use lib.ListN.{length}
 use lib.Seq.{sets}
 use Rattle.program.proofs.ArrayLoops.{left, lengths, length-first, length-more, length-done}
 use Rattle.program.proofs.arrays.put_lengths.Statement.{statement}
 use Rattle.program.proofs.arrays.put_lengths.Tie as tie
-use Rattle.program.proofs.arrays.put_lengths.Reads as reads
-use Rattle.program.proofs.arrays.put_lengths.Lts as lts
-use Rattle.codes.proofs.short.Reads as short-reads
 
 abbrev Inv-loop : tie.InvT-loop
 Inv-loop f n table₀ i₀ table i = (i ≤ n) × (lengths f n table₀ ≡ sets table (16 + i) (left f n i))

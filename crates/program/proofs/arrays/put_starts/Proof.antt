@@ -1,17 +1,13 @@
 -- `program::arrays::put_starts` meets its contract. The invariant: what is left to put gives the whole, and the start is small.
 use mathlib.Core.Path.{_≡_}
-use Prim.Native.Nat.{ℕ, _+_, _*_, _-_, _≤_, _<_}
+use Prim.Native.Nat.{_+_, _*_, _-_, _≤_, _<_}
 use native.Mathlib.Omega.{arith}
 use borrow.Author.Needs.{needs}
-use lib.ListN.{length}
 use lib.Seq.{sets}
 use Rattle.program.specs.Arrays.{startsFrom}
 use Rattle.program.proofs.ArrayLoops.{left, starts, start-first, start-more, start-done}
 use Rattle.program.proofs.arrays.put_starts.Statement.{statement}
 use Rattle.program.proofs.arrays.put_starts.Tie as tie
-use Rattle.program.proofs.arrays.put_starts.Reads as reads
-use Rattle.program.proofs.arrays.put_starts.Lts as lts
-use Rattle.codes.proofs.short.Reads as short-reads
 
 abbrev Inv-loop : tie.InvT-loop
 Inv-loop f n table₀ start₀ i₀ table start i =

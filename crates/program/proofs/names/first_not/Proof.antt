@@ -1,20 +1,14 @@
 -- `program::names::first_not` meets its contract. The invariant: what is left of the records gives the answer, and no more records lie behind than bytes.
-use mathlib.Core.Path.{_≡_, refl}
-use mathlib.Core.Bool.{Bool}
-use Prim.Native.Nat.{ℕ, _≤_, _-_}
+use mathlib.Core.Path.{_≡_}
+use Prim.Native.Nat.{_≤_, _-_}
 use native.Mathlib.Nat.{sub-zero}
 use native.Mathlib.Omega.{arith}
-use borrow.Author.Needs.{needs}
 use lib.ListN.{length}
 use Rattle.program.specs.Walk.{offsets}
 use Rattle.program.specs.Names.{passes, firstNot}
 use Rattle.program.proofs.FirstNot.{left, left-none, left-here, left-more}
 use Rattle.program.proofs.names.first_not.Statement.{statement}
 use Rattle.program.proofs.names.first_not.Tie as tie
-use Rattle.program.proofs.names.first_not.Reads as reads
-use Rattle.program.proofs.names.first_not.Lts as lts
-use Rattle.program.proofs.names.pass.Reads as pass-reads
-use Rattle.program.proofs.walk.stride.Reads as stride-reads
 
 abbrev Inv-loop : tie.InvT-loop
 Inv-loop own f v a p at₀ k₀ at k =
