@@ -64,7 +64,7 @@ unfolding begins recordsP kind
 begins-p [] = refl
 begins-p (b ∷ bs) = simp begins-append (omega (arith, no-begin-b b, begins-p bs))
 
-begins-tree : (t : Tree) → begins (recordsOf t) ≡ length (procedures t)
+pub begins-tree : (t : Tree) → begins (recordsOf t) ≡ length (procedures t)
 unfolding begins recordsOf kind
 begins-tree t = zero-add (begins (recordsP (procedures t))) ∙ begins-p (procedures t)
 

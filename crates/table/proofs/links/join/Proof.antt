@@ -1,0 +1,21 @@
+-- `table::links::join` meets its contract: the cases of `Stores`. Assumes nothing.
+use borrow.Author.Needs.{needs}
+use Rattle.table.proofs.Stores.{join-is}
+use Rattle.table.proofs.links.join.Statement.{statement}
+use Rattle.table.proofs.links.join.Tie as tie
+
+pub join-spec : {M : Type 1} → statement M
+join-spec =
+    tie.close
+    (tie.spec
+    (λ c. search needs)
+    (λ c κs. search needs)
+    (λ c κs. search needs)
+    (λ c. search needs)
+    (λ c. search needs)
+    (λ c. search needs)
+    (λ c. search needs)
+    (λ c. search needs)
+    (λ c. search needs)
+    (λ c. search needs)
+    (λ c. search join-is))

@@ -1,0 +1,11 @@
+-- `table::records::blank` meets its contract: the cases of `Stores`. Assumes nothing.
+use borrow.Author.Needs.{needs}
+use Rattle.table.proofs.Stores.{stores}
+use Rattle.table.proofs.records.blank.Statement.{statement}
+use Rattle.table.proofs.records.blank.Tie as tie
+
+pub blank-spec : {M : Type 1} → statement M
+blank-spec =
+    tie.close
+    (tie.spec
+    (λ c. search stores))
