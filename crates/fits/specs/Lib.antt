@@ -1,0 +1,2 @@
+-- The definitions of `fits`.
+pub mod Fits
