@@ -13,8 +13,8 @@ use lib.Bits.{bitXor, bitAnd, differ, and-mask, xor-step, xor-self}
 use borrow.Author.Tests.{eq-eqb, ne-eqb, ltb-true}
 use mir.Syntax.{w32, w64}
 use mir.Val.{toZ, ofZ, boolByte, Fits, SFits}
-use mir.Facts.{toZ-ofZ, ofZ-toZ, toZ-pos, toZ-neg, sfits-widen, sfits-toZ}
-use Rattle.values.specs.Values.{low32, wrap, truth, isTrue, eqZ}
+use mir.Facts.{toZ-ofZ, toZ-pos, toZ-neg, sfits-widen, sfits-toZ}
+use Rattle.values.specs.Values.{low32, truth, isTrue, eqZ}
 
 -- ---- cases
 

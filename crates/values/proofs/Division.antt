@@ -1,12 +1,12 @@
 -- The quotient and the remainder are what document 01 says. C-12 will change the rounding: nothing above this crate may cite this file.
-use mathlib.Core.Path.{_≡_, refl, sym, ap, ap₂, _∙_, subst}
+use mathlib.Core.Path.{_≡_, refl, sym, ap, ap₂, _∙_}
 use Prim.Native.Nat.{ℕ, zero, suc, _+_, _-_, _*_, _/_, _%_, _^_, _≤_, _<_}
 use native.Mathlib.Omega.{arith}
 use native.Mathlib.Nat.{mod-lt, div-add-mod'}
 use lib.IntN.{ℤ, pos, negsuc, negℤ, subℕ, _+ℤ_, _-ℤ_, _*ℤ_, +ℤ-comm, -ℤ-+ℤ-cancel, *ℤ-negsuc, negℤ-+ℤ, negℤ-negℤ}
 use lib.Signed.{_≤ℤ_, _<ℤ_, leZ-yes, ltZ-yes}
 use lib.Arith.{digits-div}
-use lib.Dec.{T, ltb→lt, lt→ltb, le→leb, leb→le}
+use lib.Dec.{ltb→lt, lt→ltb, le→leb, leb→le}
 use mir.Syntax.{w32}
 use mir.Val.{SFits}
 use mir.Facts.{sfits-lit}

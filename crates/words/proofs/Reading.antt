@@ -2,12 +2,12 @@
 use mathlib.Core.Path.{_≡_, refl, sym, ap, ap₂, _∙_, subst}
 use mathlib.Core.Bool.{Bool, true, false, cond, _&&_}
 use mathlib.Core.List.{List, [], _∷_}
-use Prim.Native.Nat.{ℕ, zero, suc, _+_, _-_, _*_, _^_, _≤_, _<_, min}
+use Prim.Native.Nat.{ℕ, zero, suc, _+_, _-_, _*_, _≤_, _<_, min}
 use native.Mathlib.Numerals.{add-one}
 use native.Mathlib.Omega.{arith}
 use native.Mathlib.Decide.{decLt}
 use lib.Dec.{leb, ltb, eqb}
-use lib.IntN.{ℤ, pos, negℤ, _-ℤ_, +ℤ-idl}
+use lib.IntN.{pos, negℤ, _-ℤ_, +ℤ-idl}
 use mir.Syntax.{w64}
 use mir.Val.{toZ, ofZ, SFits}
 use mir.Facts.{toZ-ofZ, toZ-pos, sfits-lit}

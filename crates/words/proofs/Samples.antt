@@ -2,8 +2,8 @@
 use mathlib.Core.Path.{_≡_, refl}
 use mathlib.Core.List.{List, [], _∷_}
 use Prim.Native.Nat.{ℕ}
-use lib.IntN.{ℤ, pos, negℤ}
-use Rattle.words.specs.Words.{decimalBy, decimal, signedDecimal, digitCount, digitValue, signedNext, signedValue, hexByte}
+use lib.IntN.{pos, negℤ}
+use Rattle.words.specs.Words.{decimalBy, decimal, signedDecimal, signedNext, signedValue, hexByte}
 
 -- "0", "10", "18446744073709551615", "-2147483648"
 pub written :

@@ -1,5 +1,5 @@
 -- `values::difference` meets its contract: the kit's wrapping difference of the bits is that of the numbers, modulo 2^32. Assumes nothing.
-use mathlib.Core.Path.{_≡_, ap, ap₂, _∙_, sym}
+use mathlib.Core.Path.{_≡_, ap, _∙_, sym}
 use Prim.Native.Nat.{ℕ, _+_, _%_, _^_}
 use mir.Syntax.{w32}
 use mir.Val.{toZ, ofZ}

@@ -1,7 +1,6 @@
 -- `values_lines::answers` is safe and ends: each turn goes past a line. Assumes nothing.
 use mathlib.Core.Path.{_≡_}
 use Prim.Native.Nat.{_≤_, _-_}
-use native.Mathlib.Omega.{arith}
 use lib.ListN.{length}
 use borrow.Author.Needs.{needs}
 use Rattle.values_lines.proofs.answers.Statement.{statement}

@@ -1,11 +1,11 @@
 -- `words::digits` meets its contract; the measure is the number of digits still allowed. Assumes nothing.
-use mathlib.Core.Path.{_≡_, ap, _∙_}
-use Prim.Native.Nat.{ℕ, _+_, _-_, _/_, _<_, _≤_}
+use mathlib.Core.Path.{ap}
+use Prim.Native.Nat.{ℕ, _+_, _-_, _/_, _<_}
 use native.Mathlib.Omega.{arith}
 use denote.Ref.{now}
 use borrow.Fn.Kinds.{In}
 use borrow.Fn.PlainCycle.{Measures, is, falls, and}
-use Rattle.words.specs.Words.{decimalBy, lastDigit}
+use Rattle.words.specs.Words.{decimalBy}
 use Rattle.words.proofs.Writing.{short, length-digits, stored, stored-after}
 use Rattle.words.proofs.digits.Reads as digits
 use Rattle.words.proofs.digits.Kinds as digits-kinds

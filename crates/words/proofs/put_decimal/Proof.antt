@@ -1,12 +1,11 @@
 -- `words::put_decimal` meets its contract: the digits stand at the front of `text`. Assumes nothing.
 use mathlib.Core.Path.{_≡_, sym, ap, _∙_}
-use Prim.Native.Nat.{_≤_}
 use native.Mathlib.Omega.{arith}
 use lib.ListN.{length, take}
 use lib.Seq.{length-sets, length-take-le}
 use denote.Ref.{now}
 use borrow.Author.Needs.{needs}
-use Rattle.words.specs.Words.{put, after, decimal}
+use Rattle.words.specs.Words.{decimal}
 use Rattle.words.proofs.Writing.{said, front, length-digits}
 use Rattle.words.proofs.put_decimal.Statement.{statement}
 use Rattle.words.proofs.put_decimal.Tie as tie

@@ -1,7 +1,7 @@
 -- `words::put_signed` meets its contract: a minus and the digits of the complement and one, or the digits. Assumes nothing.
 use mathlib.Core.Path.{_≡_, sym, ap, _∙_}
 use mathlib.Core.List.{_∷_}
-use Prim.Native.Nat.{ℕ, _≤_, _+_, _-_}
+use Prim.Native.Nat.{_+_, _-_}
 use native.Mathlib.Omega.{arith}
 use lib.IntN.{ℤ, natAbs}
 use lib.ListN.{length, take, replicate}
@@ -11,8 +11,8 @@ use mir.Syntax.{w64}
 use mir.Val.{toZ, ofZ}
 use mir.Facts.{toZ-ofZ}
 use borrow.Author.Needs.{needs}
-use Rattle.words.specs.Words.{put, after, decimal, signedDecimal}
-use Rattle.words.proofs.Writing.{said, front, length-digits, above-cast, above-is, notZ, not-reads, below-cast, below-fits, below-is}
+use Rattle.words.specs.Words.{decimal, signedDecimal}
+use Rattle.words.proofs.Writing.{said, front, length-digits, above-cast, above-is, not-reads, below-cast, below-fits, below-is}
 use Rattle.words.proofs.put_signed.Statement.{statement}
 use Rattle.words.proofs.put_signed.Tie as tie
 

@@ -1,16 +1,12 @@
 -- `words::read_signed` meets its contract: by the byte at the position. Assumes nothing.
-use mathlib.Core.Path.{_≡_, sym, ap, _∙_}
-use Prim.Native.Nat.{ℕ, _≤_, _<_, _+_}
+use mathlib.Core.Path.{_≡_, _∙_}
+use Prim.Native.Nat.{ℕ, _≤_, _+_}
 use native.Mathlib.Omega.{arith}
 use mathlib.Core.List.{List}
-use lib.IntN.{ℤ, pos, negℤ, _-ℤ_, +ℤ-idl}
-use lib.ListN.{length, drop}
+use lib.ListN.{drop}
 use denote.Ref.{now}
-use mir.Syntax.{w64}
-use mir.Val.{toZ, SFits}
-use mir.Facts.{toZ-ofZ, toZ-pos}
 use borrow.Author.Needs.{needs}
-use Rattle.words.specs.Words.{digitCount, digitValue, limit, signedNext, signedValue}
+use Rattle.words.specs.Words.{digitCount, digitValue, limit}
 use Rattle.words.proofs.Reading.{value-le, minus-within, minus-none, minus-some, no-minus, small, small-neg, reads-neg, reads-small}
 use Rattle.words.proofs.read_signed.Statement.{statement}
 use Rattle.words.proofs.read_signed.Tie as tie
