@@ -1,11 +1,11 @@
 -- What one record's stores leave: its five entries, one slot more, and all else as it was.
-use Prim.Native.Nat.{ℕ, zero, suc, _+_, _*_, _%_, _≤_, _<_}
-use mathlib.Core.Path.{_≡_, refl, ap, sym, _∙_}
-use mathlib.Core.List.{List, [], _∷_}
+use Prim.Native.Nat.{ℕ, _+_, _*_, _%_, _≤_, _<_}
+use mathlib.Core.Path.{_≡_, ap, sym, _∙_}
+use mathlib.Core.List.{List}
 use native.Mathlib.Omega.{arith}
 use lib.ListN.{length, getD, set, length-set}
 use lib.Seq.{getD-set-same, getD-set-other}
-use Rattle.table.specs.Table.{noted, placed, before, opener}
+use Rattle.table.specs.Table.{noted, placed, before}
 
 pub record Adds (T U : List ℕ) (x q o k h w j : ℕ) : Type 0 where
   pub size : length U ≡ length T
@@ -17,8 +17,8 @@ pub record Adds (T U : List ℕ) (x q o k h w j : ℕ) : Type 0 where
   pub other : (i : ℕ) → (i ≡ x → ⊥) → (i ≡ 1024 + x → ⊥) → (i ≡ 2048 + x → ⊥) → (i ≡ 7168 + x → ⊥) → (i ≡ 8192 + x → ⊥) → (i ≡ j → ⊥)
       → getD U i 0 ≡ getD T i 0
 
--- Two of the slots are one only where the numbers are.
-skip : (T : List ℕ) (i j v : ℕ) → (j ≡ i → ⊥) → getD (set T i v) j 0 ≡ getD T j 0
+-- A store elsewhere.
+pub skip : (T : List ℕ) (i j v : ℕ) → (j ≡ i → ⊥) → getD (set T i v) j 0 ≡ getD T j 0
 skip T i j v h = getD-set-other T i j v 0 h
 
 module _ (T : List ℕ) (x q o k : ℕ) (hx : x < 1024) where
@@ -35,9 +35,6 @@ module _ (T : List ℕ) (x q o k : ℕ) (hx : x < 1024) where
   -- OPEN is not among them
   pub before-noted : (y : ℕ) → y ≤ 1024 → before (noted T x q o k) y ≡ before T y
   before-noted y h = noted-other (7167 + y) (λ e. omega arith) (λ e. omega arith) (λ e. omega arith)
-
-  pub opener-noted : opener (noted T x q o k) x ≡ opener T x
-  opener-noted = ap (λ b. (b + 1023) % 1024) (before-noted x (omega arith))
 
   size-k : length K ≡ length T
   size-k = length-set O (1024 + x) k ∙ length-set T x (o % 65536)
@@ -82,6 +79,10 @@ pub data Away (j : ℕ) : Type 0 where
 -- None of the five slots of record x.
 abbrev pub Apart : ℕ → ℕ → Type 0
 Apart j x = (j ≡ x → ⊥) × ((j ≡ 1024 + x → ⊥) × ((j ≡ 2048 + x → ⊥) × ((j ≡ 7168 + x → ⊥) × (j ≡ 8192 + x → ⊥))))
+
+-- An entry of another record.
+pub labels-apart : (s y x : ℕ) → y < x → x < 1024 → Apart (1024 * s + y) x
+labels-apart s y x h k = (λ e. omega arith, (λ e. omega arith, (λ e. omega arith, (λ e. omega arith, λ e. omega arith))))
 
 pub apart : (j x : ℕ) → x < 1024 → Away j → Apart j x
 apart j x h (low a b) = (λ e. omega arith, (λ e. omega arith, (λ e. omega arith, (λ e. omega arith, λ e. omega arith))))

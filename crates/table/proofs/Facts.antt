@@ -1,5 +1,5 @@
 -- What the table's law asks of an accepted program: its records by label, its procedures in order, its sizes.
-use Prim.Native.Nat.{ℕ, zero, suc, _+_, _≤_, _<_, pred}
+use Prim.Native.Nat.{ℕ, zero, suc, _+_, _≤_, _<_}
 use mathlib.Core.Path.{_≡_, refl, ap, sym, _∙_}
 use mathlib.Core.List.{List, [], _∷_, _++_}
 use lib.ListN.{length, getD, List·getD-eq-default}
@@ -10,9 +10,9 @@ use Rattle.program.specs.Says.{Accepts}
 use Rattle.program.proofs.CheckSays.{begins-tree}
 use Rattle.moves.specs.Labels.{sizeS, sizeB, beginFrom, endFrom}
 use Rattle.moves.specs.Edges.{Frame, inThen, inElse, inDo, inLoop}
-use Rattle.moves.proofs.Linked.{Prog, forget, nameL}
+use Rattle.moves.proofs.Linked.{Prog, forget}
 use Rattle.moves.proofs.Cuts.{ProcOk, Wf}
-use Rattle.moves.proofs.Rows.{Row, row, around, rowsS, rowsB, rowsP, noRow, rowsOf, prog}
+use Rattle.moves.proofs.Rows.{Row, around, rowsS, rowsB, rowsP, noRow, rowsOf, prog}
 use Rattle.moves.proofs.Whole.{proc-there}
 use Rattle.moves.proofs.Links.{at-is}
 use Rattle.moves.proofs.Accepted.{accepted-wf}

@@ -1,24 +1,24 @@
 -- The first pass: after x records, the entries of the labels below x are as the program says, and each slot that one of these records fills.
-use Prim.Native.Nat.{ℕ, zero, suc, _+_, _*_, _-_, _%_, _≤_, _<_, pred}
+use Prim.Native.Nat.{ℕ, suc, _+_, _*_, _-_, _%_, _≤_, _<_, pred}
 use mathlib.Core.Path.{_≡_, refl, ap, sym, _∙_, subst}
 use mathlib.Core.List.{List, [], _∷_}
 use mathlib.Core.Bool.{cond}
 use mathlib.Core.Logic.{_⊎_, inl, inr}
-use lib.Dec.{eqb, ltb}
+use lib.Dec.{ltb}
 use native.Mathlib.Omega.{arith}
 use borrow.Author.Tests.{lt-ltb, le-ltb, ne-eqb}
-use lib.ListN.{length, getD, set, replicate, length-replicate}
+use lib.ListN.{length, getD, set, length-replicate}
 use Rattle.program.specs.Records.{kind}
 use Rattle.program.specs.Trees.{Tree}
 use Rattle.program.specs.Walk.{kindAt}
 use Rattle.moves.proofs.Linked.{Con, Rec, nameL, beginL, endL, setL, skipL, ifL, elseL, fiL, fromL, loopL, untilL, callL, uncallL, Prog, forget, headOf}
 use Rattle.moves.proofs.Cuts.{Local, ProcOk, SimpleOk}
-use Rattle.moves.proofs.Locals.{which, either}
+use Rattle.moves.proofs.Locals.{either}
 use Rattle.table.specs.Table.{blank, noted, placed, frameNo, before, opener, outside, begun, ended, inside, opened, turned, closed, entered, nextOwner, filled}
 use Rattle.table.proofs.Stores.{on-1, on-2, on-3, on-5, on-6, on-7, on-8, on-9, on-10, on-else}
 use Rattle.table.proofs.Facts.{Facts}
 use Rattle.table.proofs.Parts.{openOf, midOf, tailOf, spotOf, Construct, cond-is, loop-is}
-use Rattle.table.proofs.Entries.{Adds, Away, low, high, Apart, apart, away-free, adds-five, adds-spot, spot-holds, before-noted, opener-noted}
+use Rattle.table.proofs.Entries.{Adds, Away, low, high, Apart, labels-apart, apart, away-free, adds-five, adds-spot, spot-holds, before-noted}
 
 module _ (t : Tree) (P : Prog) (n p : ℕ) (G : Facts t P n p) where
   -- Record v fills slot i with its own label.
@@ -126,14 +126,11 @@ module _ (t : Tree) (P : Prog) (n p : ℕ) (G : Facts t P n p) where
             offset = λ y hy. either y x
                 (λ l. stay y (λ e. omega arith, (λ e. omega arith, (λ e. omega arith, (λ e. omega arith, λ e. omega arith)))) (λ e. far y (omega arith) .0 (sym e)) ∙ F .offset y l)
                 (λ l. let z : y ≡ x = omega arith in rw z (A .offset ∙ ap (λ i. i % 65536) eo));
-            kinds = more 1024 (λ y. kind (forget (P .at y))) (λ y l. stay (1024 + y)
-                (λ e. omega arith, (λ e. omega arith, (λ e. omega arith, (λ e. omega arith, λ e. omega arith)))) (λ e. far y (omega arith) .1 .0 (sym e)) ∙ F .kinds y l) (A .kind ∙ ek);
-            heads = more 2048 (λ y. headOf (P .at y)) (λ y l. stay (2048 + y)
-                (λ e. omega arith, (λ e. omega arith, (λ e. omega arith, (λ e. omega arith, λ e. omega arith)))) (λ e. far y (omega arith) .1 .1 .0 (sym e)) ∙ F .heads y l) (A .head ∙ eh);
-            opens = more 7168 (λ y. openOf (P .encl y)) (λ y l. stay (7168 + y)
-                (λ e. omega arith, (λ e. omega arith, (λ e. omega arith, (λ e. omega arith, λ e. omega arith)))) (λ e. far y (omega arith) .1 .1 .1 .0 (sym e)) ∙ F .opens y l) (A .frame ∙ ew);
+            kinds = more 1024 (λ y. kind (forget (P .at y))) (λ y l. stay (1024 + y) (labels-apart 1 y x l s) (λ e. far y (omega arith) .1 .0 (sym e)) ∙ F .kinds y l) (A .kind ∙ ek);
+            heads = more 2048 (λ y. headOf (P .at y)) (λ y l. stay (2048 + y) (labels-apart 2 y x l s) (λ e. far y (omega arith) .1 .1 .0 (sym e)) ∙ F .heads y l) (A .head ∙ eh);
+            opens = more 7168 (λ y. openOf (P .encl y)) (λ y l. stay (7168 + y) (labels-apart 7 y x l s) (λ e. far y (omega arith) .1 .1 .1 .0 (sym e)) ∙ F .opens y l) (A .frame ∙ ew);
             owners = λ r y hy a b. either y x
-                (λ l. stay (8192 + y) (λ e. omega arith, (λ e. omega arith, (λ e. omega arith, (λ e. omega arith, λ e. omega arith)))) (λ e. far y (omega arith) .1 .1 .1 .1 (sym e))
+                (λ l. stay (8192 + y) (labels-apart 8 y x l s) (λ e. far y (omega arith) .1 .1 .1 .1 (sym e))
                 ∙ F .owners r y l a b)
                 (λ l. let z : y ≡ x = omega arith in rw z (A .owner ∙ sym (own x q r (F .owned) (omega arith) (omega arith))));
             marks = λ i v m hv. either v x
@@ -270,23 +267,17 @@ module _ (t : Tree) (P : Prog) (n p : ℕ) (G : Facts t P n p) where
         (on-ended (rw e (omega arith)) (rw e) (subst (λ r. r < p) z (there r x (omega (arith, ok .lt)) (omega arith))) (l ∙ f)
         (owned-end x q k i (l ∙ f) (F .owned)))
 
-    statement : (ρ : Rec) → P .at x ≡ ρ → (k ≡ 4) ⊎ ((k ≡ 11) ⊎ ((k ≡ 12) ⊎ (k ≡ 13))) → 0 ≡ headOf ρ → spotOf ρ ≡ 5120 → SimpleOk P x → Next (entered N x q k)
-    statement ρ e i eh es ok = plain (rank i)
+    statement : (ρ : Rec) → P .at x ≡ ρ → (k ≡ 4) ⊎ (11 ≤ k) → 0 ≡ headOf ρ → spotOf ρ ≡ 5120 → SimpleOk P x → Next (entered N x q k)
+    statement ρ e i eh es ok = put i
       where
-        rank : (k ≡ 4) ⊎ ((k ≡ 11) ⊎ ((k ≡ 12) ⊎ (k ≡ 13))) → (k ≡ 4) ⊎ (11 ≤ k)
-        rank (inl a) = inl a
-        rank (inr (inl a)) = inr (omega arith)
-        rank (inr (inr (inl a))) = inr (omega arith)
-        rank (inr (inr (inr a))) = inr (omega arith)
+        there′ : (k ≡ 1 → ⊥) → (k ≡ 3 → ⊥) → Next (inside N x)
+        there′ a b = on-inside (pos a) (ok .en) (eh ∙ ap headOf (sym e)) (ap spotOf e ∙ es) (onward b)
 
-        put : (k ≡ 1 → ⊥) → (k ≡ 3 → ⊥) → Next (inside N x)
-        put a b = on-inside (pos a) (ok .en) (eh ∙ ap headOf (sym e)) (ap spotOf e ∙ es) (onward b)
-
-        plain : (k ≡ 4) ⊎ (11 ≤ k) → Next (entered N x q k)
-        plain (inl a) = subst Next (on-else N (inside N x) x q k (λ z. omega arith) (λ z. omega arith) (λ z. omega arith) (λ z. omega arith) (λ z. omega arith)
-            (λ z. omega arith) (λ z. omega arith) (λ z. omega arith) (λ z. omega arith) refl) (put (λ z. omega arith) (λ z. omega arith))
-        plain (inr a) = subst Next (on-else N (inside N x) x q k (λ z. omega arith) (λ z. omega arith) (λ z. omega arith) (λ z. omega arith) (λ z. omega arith)
-            (λ z. omega arith) (λ z. omega arith) (λ z. omega arith) (λ z. omega arith) refl) (put (λ z. omega arith) (λ z. omega arith))
+        put : (k ≡ 4) ⊎ (11 ≤ k) → Next (entered N x q k)
+        put (inl a) = subst Next (on-else N (inside N x) x q k (λ z. omega arith) (λ z. omega arith) (λ z. omega arith) (λ z. omega arith) (λ z. omega arith)
+            (λ z. omega arith) (λ z. omega arith) (λ z. omega arith) (λ z. omega arith) refl) (there′ (λ z. omega arith) (λ z. omega arith))
+        put (inr a) = subst Next (on-else N (inside N x) x q k (λ z. omega arith) (λ z. omega arith) (λ z. omega arith) (λ z. omega arith) (λ z. omega arith)
+            (λ z. omega arith) (λ z. omega arith) (λ z. omega arith) (λ z. omega arith) refl) (there′ (λ z. omega arith) (λ z. omega arith))
 
     record-on : (ρ : Rec) → P .at x ≡ ρ → Local t P ρ x → Next (entered N x q k)
     unfolding kind
@@ -296,9 +287,9 @@ module _ (t : Tree) (P : Prog) (n p : ℕ) (G : Facts t P n p) where
     record-on (beginL r) e l = begins r e (l .0) (l .1)
     record-on (endL r) e l = ends r e (l .0) (l .1)
     record-on (setL o t ε) e l = statement (setL o t ε) e (inl (kind-of (setL o t ε) e)) refl refl (l .1)
-    record-on skipL e l = statement skipL e (inr (inr (inr (kind-of skipL e)))) refl refl l
-    record-on (callL r) e l = statement (callL r) e (inr (inl (kind-of (callL r) e))) refl refl (l .1)
-    record-on (uncallL r) e l = statement (uncallL r) e (inr (inr (inl (kind-of (uncallL r) e)))) refl refl (l .1)
+    record-on skipL e l = statement skipL e (inr (omega (arith, kind-of skipL e))) refl refl l
+    record-on (callL r) e l = statement (callL r) e (inr (omega (arith, kind-of (callL r) e))) refl refl (l .1)
+    record-on (uncallL r) e l = statement (uncallL r) e (inr (omega (arith, kind-of (uncallL r) e))) refl refl (l .1)
     record-on (ifL c) e l =
         let i = kind-of (ifL c) e in
         subst Next (on-5 N (opened N x 0) x q k i refl) (on-opened 0 c (cond-is t P n p G c (l .1)) (onward (λ z. omega arith)) (l .0) (rw e))

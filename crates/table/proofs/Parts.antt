@@ -1,6 +1,6 @@
 -- The parts of a construct, by label, and its frames as numbers.
-use Prim.Native.Nat.{ℕ, suc, _+_, _*_, _≤_, _<_, pred}
-use mathlib.Core.Path.{_≡_, refl, ap, sym, _∙_}
+use Prim.Native.Nat.{ℕ, suc, _+_, _*_, _<_, pred}
+use mathlib.Core.Path.{_≡_, ap, sym, _∙_}
 use mathlib.Core.List.{List, [], _∷_}
 use native.Mathlib.Omega.{arith}
 use Rattle.program.specs.Records.{kind}

@@ -1,19 +1,17 @@
 -- The second and the third pass: the partners of all records of a construct, and both ends of each gap.
 use Prim.Native.Nat.{ℕ, zero, suc, _+_, _%_, _≤_, _<_}
-use mathlib.Core.Path.{_≡_, refl, ap, sym, _∙_, subst}
-use mathlib.Core.List.{List, [], _∷_}
+use mathlib.Core.Path.{_≡_, ap, sym, _∙_, subst}
+use mathlib.Core.List.{List}
 use native.Mathlib.Omega.{arith}
 use lib.ListN.{length, getD, set, length-set}
-use lib.Seq.{getD-set-same, getD-set-other}
+use lib.Seq.{getD-set-same}
 use Rattle.program.specs.Trees.{Tree}
 use Rattle.moves.proofs.Linked.{Con, Prog, headOf}
 use Rattle.moves.proofs.Locals.{either}
 use Rattle.table.specs.Table.{headAt, share, shared, fromAbove, fromBelow, join, joined}
 use Rattle.table.proofs.Facts.{Facts}
 use Rattle.table.proofs.Parts.{Construct}
-
-skip : (T : List ℕ) (i j v : ℕ) → (j ≡ i → ⊥) → getD (set T i v) j 0 ≡ getD T j 0
-skip T i j v h = getD-set-other T i j v 0 h
+use Rattle.table.proofs.Entries.{skip}
 
 -- ---- Second pass.
 module _ (t : Tree) (P : Prog) (n p : ℕ) (G : Facts t P n p) where

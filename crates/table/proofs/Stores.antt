@@ -1,9 +1,8 @@
 -- What the record functions store, case by case, over the table T before, a table U on the way and the record x.
-use Prim.Native.Nat.{ℕ, suc, _+_, _*_, _%_}
-use mathlib.Core.Path.{_≡_, refl, ap, sym, _∙_}
+use Prim.Native.Nat.{ℕ, _+_, _%_}
+use mathlib.Core.Path.{_≡_, refl}
 use mathlib.Core.List.{List}
 use lib.ListN.{getD, set, replicate}
-use lib.Dec.{eqb}
 use borrow.Author.Tests.{ne-eqb}
 use native.Mathlib.Numerals.{add-one}
 use Rattle.table.specs.Table.{blank, noted, placed, frameNo, before, opener, outside, begun, ended, inside, opened, turned, closed, entered, nextOwner, share, fromAbove, fromBelow, join}

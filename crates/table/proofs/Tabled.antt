@@ -4,7 +4,7 @@ use mathlib.Core.Path.{_≡_, refl, ap, sym, _∙_, subst}
 use mathlib.Core.List.{List}
 use native.Mathlib.Omega.{arith}
 use lib.ListN.{length, getD}
-use Rattle.program.specs.Records.{names, kind}
+use Rattle.program.specs.Records.{kind}
 use Rattle.program.specs.Trees.{Tree, procedures, recordsOf}
 use Rattle.program.specs.Walk.{kindAt, offsets}
 use Rattle.program.specs.Says.{Accepts}
@@ -21,7 +21,7 @@ use Rattle.table.proofs.Facts.{Facts, facts}
 pub use Rattle.table.proofs.Parts.{Part, is-if, is-else, is-fi, is-from, is-loop, is-until, openOf}
 use Rattle.table.proofs.Parts.{Construct, within, cond-is, loop-is}
 use Rattle.table.proofs.First.{middle, tail, first, last, there, Filled, filled-first, filled-all}
-use Rattle.table.proofs.Second.{Half, Shared, shared-all, Joined, joined-all}
+use Rattle.table.proofs.Second.{Shared, shared-all, Joined, joined-all}
 use Rattle.table.proofs.Offsets.{labelled-is, offset-inside, kind-there}
 
 pub record Tabled (t : Tree) (f tab : List ℕ) : Type 0 where

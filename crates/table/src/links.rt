@@ -2,7 +2,7 @@
 ghost use mathlib.Core.Path.{_≡_};
 ghost use Prim.Native.Nat.{suc, pred, _<_, _≤_};
 use crate::records::wide;
-ghost use Rattle.table.specs.Table.{headAt, share, shared, fromAbove, fromBelow, join, joined};
+ghost use Rattle.table.specs.Table.{share, shared, fromAbove, fromBelow, join, joined};
 
 // MIDDLE and TAIL of record x are those of its construct's IF or FROM.
 fn share(table: &mut [u16; 9344], x: usize)

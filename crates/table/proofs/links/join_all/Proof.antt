@@ -2,7 +2,6 @@
 use mathlib.Core.Path.{_≡_}
 use Prim.Native.Nat.{_-_, _≤_, pred}
 use native.Mathlib.Omega.{arith}
-use borrow.Author.Needs.{needs}
 use Rattle.table.specs.Table.{joined}
 use Rattle.table.proofs.Loops.{joined-first, joined-on, joined-done}
 use Rattle.table.proofs.links.join_all.Statement.{statement}

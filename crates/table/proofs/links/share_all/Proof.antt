@@ -2,7 +2,6 @@
 use mathlib.Core.Path.{_≡_}
 use Prim.Native.Nat.{_-_, _≤_}
 use native.Mathlib.Omega.{arith}
-use borrow.Author.Needs.{needs}
 use Rattle.table.specs.Table.{shared}
 use Rattle.table.proofs.Loops.{shared-first, shared-on, shared-done}
 use Rattle.table.proofs.links.share_all.Statement.{statement}

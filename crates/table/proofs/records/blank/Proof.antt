@@ -1,5 +1,4 @@
 -- `table::records::blank` meets its contract: the cases of `Stores`. Assumes nothing.
-use borrow.Author.Needs.{needs}
 use Rattle.table.proofs.Stores.{stores}
 use Rattle.table.proofs.records.blank.Statement.{statement}
 use Rattle.table.proofs.records.blank.Tie as tie
