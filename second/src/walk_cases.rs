@@ -291,6 +291,11 @@ fn faults() -> Vec<Walked> {
         Node::If(scalar(0), skip(), skip(), divided()),
         Node::From(divided(), skip(), skip(), beyond()),
         Node::From(constant(1), skip(), skip(), rest()),
+        Node::From(divided(), skip(), skip(), constant(1)),
+        Node::From(beyond(), skip(), skip(), constant(1)),
+        Node::If(beyond(), skip(), skip(), constant(0)),
+        Node::If(constant(1), skip(), skip(), beyond()),
+        Node::If(constant(0), skip(), skip(), beyond()),
     ];
     let stores = || {
         vec![

@@ -3,6 +3,7 @@
 #![forbid(unsafe_code)]
 
 use second::calls;
+use second::check::check;
 use second::lent::LentPlace;
 use second::place::{Direction, Frame, Place, MAX_FRAMES};
 use second::raw_session::{malformed, other_stores, unfit, RawSession};
@@ -96,6 +97,43 @@ fn walks_meet_every_number_in_every_call() {
     for number in 0..=8 {
         assert!(met.contains(&('s', number)), "s {number}");
     }
+}
+
+/// The kind of the record that a single step executes, and the direction it is executed in.
+fn executed(desk: &Desk, line: &Line) -> Option<(u16, Direction)> {
+    let program = check(&desk.file).ok()?;
+    let place = match line {
+        Line::Step => desk.place.place()?,
+        Line::Back => desk.place.place()?.turned(),
+        _ => return None,
+    };
+    let fits = place.fits(&program);
+    fits.then(|| (program.record(place.b).kind(), place.direction))
+}
+
+/// Every record in both directions, with each way that a step at it can go.
+#[test]
+fn walks_meet_every_reason_at_every_record() {
+    let mut met = BTreeSet::new();
+    each(Family::Walk, |before, line, said| {
+        if let Some((kind, direction)) = executed(before, line) {
+            met.insert((kind, direction.code(), told(said).number));
+        }
+    });
+    let mut expected = BTreeSet::from([(2, 1, 0), (2, 1, 30), (3, 0, 0), (3, 0, 30)]);
+    for direction in [0, 1] {
+        for kind in [4, 5, 7, 8, 10] {
+            expected.extend([0, 32, 33].map(|number| (kind, direction, number)));
+        }
+        for kind in [11, 12] {
+            expected.extend([0, 34].map(|number| (kind, direction, number)));
+        }
+        expected.insert((13, direction, 0));
+    }
+    expected.extend([(5, 1, 31), (7, 0, 31), (8, 0, 31), (10, 1, 31)]);
+    // Stores of another length are asked before the place.
+    met.retain(|(_, _, number)| *number != 20);
+    assert_eq!(met, expected);
 }
 
 #[test]
