@@ -8,3 +8,4 @@ pub mod First
 pub mod Second
 pub mod Offsets
 pub mod Tabled
+pub mod Determined
