@@ -1,12 +1,12 @@
 -- What the functions answer, case by case, over plain numbers and lists. Assumes nothing.
 use mathlib.Core.Path.{_≡_, refl, sym, ap, _∙_}
-use mathlib.Core.Bool.{Bool, true, false, not, cond}
+use mathlib.Core.Bool.{Bool, true, false, not}
 use mathlib.Core.List.{List}
-use Prim.Native.Nat.{ℕ, suc, _+_, _*_, _-_, _≤_, _<_}
+use Prim.Native.Nat.{ℕ, suc, _+_, _-_, _≤_, _<_}
 use native.Mathlib.Omega.{arith}
-use lib.Dec.{eqb, ltb}
+use lib.Dec.{eqb}
 use lib.ListN.{getD}
-use borrow.Author.Tests.{le-leb, lt-leb, lt-ltb, le-ltb, eq-eqb, ne-eqb}
+use borrow.Author.Tests.{lt-ltb, le-ltb, eq-eqb, ne-eqb}
 use Rattle.codes.specs.Codes.{word16}
 use Rattle.place.specs.declared.Place.{Place as Held}
 use Rattle.place.specs.Slots.{Plain, Decides, plainOf}
@@ -28,14 +28,22 @@ entry-in tab start x w h e = slot-in 9344 tab (start + w) h ∙ ap (entryAt tab 
 pub entry-past : (tab : List ℕ) (start x w : ℕ) → 9344 ≤ start + w → w ≡ x → 0 ≡ entryAt tab start x
 entry-past tab start x w h e = slot-past 9344 tab (start + w) h ∙ ap (entryAt tab start) e
 
+-- ---- tests
+pub by : {X : Type 0} (b : Bool) → (b ≡ true → X) → (b ≡ false → X) → X
+by true f g = f refl
+by false f g = g refl
+
+pub clash : {X : Type 0} {b : Bool} → b ≡ true → b ≡ false → X
+clash p q = absurd (let z : _≡_ {A = ℕ} 0 1 = cc in let y : ⊥ = omega arith in y)
+
 -- a test's answer, and what it is of
 off : (b x : Bool) → not b ≡ true → b ≡ x → x ≡ false
-off true x t e = absurd (let z : _≡_ {A = ℕ} 0 1 = cc in omega arith)
+off true x t e = clash t refl
 off false x t e = sym e
 
 on : (b x : Bool) → not b ≡ false → b ≡ x → x ≡ true
 on true x t e = sym e
-on false x t e = absurd (let z : _≡_ {A = ℕ} 0 1 = cc in omega arith)
+on false x t e = clash refl t
 
 pub call-first : (k : ℕ) → k ≡ 11 → true ≡ callKind k
 unfolding callKind

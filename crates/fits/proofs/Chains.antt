@@ -3,39 +3,31 @@
 --     chained-is    the way through the slots is the way through the frames that they hold
 --     sound         a way that ends well tells the calls
 --     complete      the frames of a cut that sits in the program make such a way
-use Prim.Native.Nat.{ℕ, zero, suc, _+_, _*_, _≤_, _<_, pred}
+use Prim.Native.Nat.{ℕ, zero, suc, _+_, _≤_, _<_, pred}
 use mathlib.Core.Path.{_≡_, refl, ap, ap₂, sym, _∙_, subst}
-use mathlib.Core.Bool.{Bool, true, false, not}
+use mathlib.Core.Bool.{Bool, true, false}
 use mathlib.Core.List.{List, [], _∷_, _++_}
-use mathlib.Core.Logic.{_⊎_, inl, inr}
+use mathlib.Core.Logic.{inl, inr}
 use lib.Dec.{eqb, ltb}
 use lib.ListN.{length, getD}
 use native.Mathlib.Omega.{arith}
-use native.Mathlib.Numerals.{add-one}
 use borrow.Author.Tests.{ltb-true, ltb-false, eqb-true, eqb-false}
 use Rattle.place.specs.Slots.{frameOf, framesIn}
 use Rattle.place.proofs.Held.{frame-back, kind-of, label-of}
 use Rattle.program.specs.Trees.{Tree, recordsOf}
 use Rattle.program.specs.Says.{Accepts}
 use Rattle.moves.specs.Edges.{Frame, inThen, inElse, inDo, inLoop, called, frameKind, frameLabel}
-use Rattle.moves.proofs.Linked.{nameL, callL, uncallL, Prog}
+use Rattle.moves.proofs.Linked.{Prog}
 use Rattle.moves.proofs.Cuts.{SimpleOk, Wf, Good, in-main, by-call, by-uncall}
 use Rattle.moves.proofs.Rows.{prog}
 use Rattle.moves.proofs.View.{stack}
 use Rattle.moves.proofs.Accepted.{accepted-wf}
 use Rattle.table.proofs.Tabled.{Tabled, openOf}
 use Rattle.fits.specs.declared.Chain.{Chain}
-use Rattle.fits.specs.Fits.{slotAt, entryAt, numberOf, lost, constructOf, callKind, calleeOf, callOf, outward, ends, chained}
-use Rattle.fits.proofs.Cases.{slot-in, construct-yes, construct-no, call-open, call-no-call, call-other, call-many, call-yes, outward-past, outward-construct, outward-call}
+use Rattle.fits.specs.Fits.{entryAt, numberOf, lost, callKind, calleeOf, callOf, outward, ends, chained}
+use Rattle.fits.proofs.Cases.{by, clash, slot-in, construct-yes, construct-no, call-open, call-no-call, call-other, call-many, call-yes, outward-past, outward-construct, outward-call}
 use Rattle.fits.proofs.Nest.{Nest, bare, nested, nest, Lies, in-some, there}
 use Rattle.fits.proofs.Entries.{Calls, Calling, small, open-is, open-before, owner-is, callee-is, call-is, call-there}
-
-pub by : {X : Type 0} (b : Bool) → (b ≡ true → X) → (b ≡ false → X) → X
-by true f g = f refl
-by false f g = g refl
-
-pub clash : {X : Type 0} {b : Bool} → b ≡ true → b ≡ false → X
-clash p q = absurd (let z : _≡_ {A = ℕ} 0 1 = cc in let y : ⊥ = omega arith in y)
 
 -- One stands inside this construct, in procedure q, n calls passed.
 abbrev pub stand : ℕ → ℕ → ℕ → Chain

@@ -3,7 +3,7 @@
 --     callee-is, call-there                                                 the record is a CALL or UNCALL of this procedure
 use Prim.Native.Nat.{ℕ, zero, suc, _+_, _^_, _≤_, _<_, pred}
 use mathlib.Core.Path.{_≡_, refl, ap, sym, _∙_, subst}
-use mathlib.Core.Bool.{Bool, true, false}
+use mathlib.Core.Bool.{true}
 use mathlib.Core.List.{List, [], _∷_, _++_}
 use mathlib.Core.Logic.{_⊎_, inl, inr}
 use lib.ListN.{length, getD, drop}
@@ -19,14 +19,14 @@ use Rattle.program.proofs.Offsets.{record-at}
 use Rattle.program.proofs.Passes.{formed-at}
 use Rattle.moves.specs.Labels.{at}
 use Rattle.moves.specs.Places.{down, up}
-use Rattle.moves.proofs.Linked.{Con, Rec, nameL, beginL, endL, setL, skipL, ifL, elseL, fiL, fromL, loopL, untilL, callL, uncallL, Prog, forget}
+use Rattle.moves.proofs.Linked.{Rec, nameL, beginL, endL, setL, skipL, ifL, elseL, fiL, fromL, loopL, untilL, callL, uncallL, Prog, forget}
 use Rattle.moves.proofs.Rows.{prog}
 use Rattle.moves.proofs.Links.{at-is}
 use Rattle.moves.proofs.Gaps.{tip}
 use Rattle.moves.proofs.Accepted.{accepted-wf}
 use Rattle.table.proofs.Tabled.{Tabled, openOf}
 use Rattle.fits.specs.Fits.{entryAt, callKind, calleeOf}
-use Rattle.fits.proofs.Cases.{slot-in}
+use Rattle.fits.proofs.Cases.{clash, slot-in}
 use Rattle.fits.proofs.Nest.{there}
 
 -- ---- at most 1,024 records
@@ -66,17 +66,17 @@ pub record Calling (P : Prog) (c : ℕ) : Type 0 where
 
 calling : (P : Prog) (c : ℕ) (ρ : Rec) → P .at c ≡ ρ → callKind (kind (forget ρ)) ≡ true → Calling P c
 unfolding callKind kind
-calling P c (nameL v ls) e h = absurd (let z : _≡_ {A = ℕ} 0 1 = cc in let y : ⊥ = omega arith in y)
-calling P c (beginL q) e h = absurd (let z : _≡_ {A = ℕ} 0 1 = cc in let y : ⊥ = omega arith in y)
-calling P c (endL q) e h = absurd (let z : _≡_ {A = ℕ} 0 1 = cc in let y : ⊥ = omega arith in y)
-calling P c (setL o t ε) e h = absurd (let z : _≡_ {A = ℕ} 0 1 = cc in let y : ⊥ = omega arith in y)
-calling P c skipL e h = absurd (let z : _≡_ {A = ℕ} 0 1 = cc in let y : ⊥ = omega arith in y)
-calling P c (ifL o) e h = absurd (let z : _≡_ {A = ℕ} 0 1 = cc in let y : ⊥ = omega arith in y)
-calling P c (elseL o) e h = absurd (let z : _≡_ {A = ℕ} 0 1 = cc in let y : ⊥ = omega arith in y)
-calling P c (fiL o) e h = absurd (let z : _≡_ {A = ℕ} 0 1 = cc in let y : ⊥ = omega arith in y)
-calling P c (fromL o) e h = absurd (let z : _≡_ {A = ℕ} 0 1 = cc in let y : ⊥ = omega arith in y)
-calling P c (loopL o) e h = absurd (let z : _≡_ {A = ℕ} 0 1 = cc in let y : ⊥ = omega arith in y)
-calling P c (untilL o) e h = absurd (let z : _≡_ {A = ℕ} 0 1 = cc in let y : ⊥ = omega arith in y)
+calling P c (nameL v ls) e h = clash h refl
+calling P c (beginL q) e h = clash h refl
+calling P c (endL q) e h = clash h refl
+calling P c (setL o t ε) e h = clash h refl
+calling P c skipL e h = clash h refl
+calling P c (ifL o) e h = clash h refl
+calling P c (elseL o) e h = clash h refl
+calling P c (fiL o) e h = clash h refl
+calling P c (fromL o) e h = clash h refl
+calling P c (loopL o) e h = clash h refl
+calling P c (untilL o) e h = clash h refl
 calling P c (callL q) e h = record { q = q; calls = inl e }
 calling P c (uncallL q) e h = record { q = q; calls = inr e }
 

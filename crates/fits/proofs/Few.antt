@@ -1,12 +1,12 @@
 -- A fitting place has at most 1,104 frames: 64 calls, and at most 16 constructs open in each of 65 segments. Assumes nothing.
-use Prim.Native.Nat.{ℕ, zero, suc, _+_, _*_, _≤_, _<_, max}
-use mathlib.Core.Path.{_≡_, refl, ap, sym, _∙_, subst⁻¹}
+use Prim.Native.Nat.{ℕ, zero, suc, _+_, _*_, _≤_}
+use mathlib.Core.Path.{ap}
 use mathlib.Core.List.{List, [], _∷_, _++_}
 use lib.ListN.{length, getD, length-append}
 use native.Mathlib.Omega.{arith}
 use Rattle.program.specs.Trees.{Stmt, setS, skipS, callS, uncallS, ifS, fromS, Block, one, _then_, Tree, procedures, openS, openB, openP}
 use Rattle.program.specs.Says.{Accepts}
-use Rattle.moves.specs.Edges.{Frame, inThen, inElse, inDo, inLoop}
+use Rattle.moves.specs.Edges.{Frame}
 use Rattle.moves.specs.Places.{Place, Fits}
 use Rattle.moves.proofs.Linked.{Prog}
 use Rattle.moves.proofs.Rows.{Row, around, rowsS, rowsB, rowsP, noRow, rowsOf, prog}

@@ -2,14 +2,13 @@
 --     fits-law      for every accepted file, its table and any struct
 --     frames-few    a fitting place has at most 1,104 frames (Few)
 use Prim.Native.Nat.{ℕ, zero, suc, _+_, _≤_, _<_}
-use mathlib.Core.Path.{_≡_, refl, ap, ap₂, sym, _∙_, subst}
+use mathlib.Core.Path.{_≡_, refl, ap, ap₂, sym, _∙_}
 use mathlib.Core.Bool.{Bool, true, false, cond}
-use mathlib.Core.List.{List, [], _∷_, _++_}
+use mathlib.Core.List.{List, _++_}
 use mathlib.Core.Logic.{_⊎_, inl, inr}
 use lib.Dec.{eqb, ltb}
-use lib.ListN.{length, getD}
+use lib.ListN.{length}
 use native.Mathlib.Omega.{arith}
-use native.Mathlib.Numerals.{add-one}
 use borrow.Author.Tests.{lt-ltb, ltb-true, eq-eqb, eqb-true, eqb-false}
 use Rattle.place.specs.declared.Place.{Place as Held}
 use Rattle.place.specs.Places.{Dir, down, up, opp, Place, Frame}
@@ -20,20 +19,21 @@ use Rattle.program.specs.Trees.{Tree, recordsOf}
 use Rattle.program.specs.Says.{Accepts}
 use Rattle.moves.specs.Labels.{at}
 use Rattle.moves.specs.Places.{Fits}
-use Rattle.moves.proofs.Linked.{Con, Rec, nameL, beginL, endL, setL, skipL, ifL, elseL, fiL, fromL, loopL, untilL, callL, uncallL, Prog, forget, off}
-use Rattle.moves.proofs.Cuts.{Cut, Span, Local, Wf, Good, Sits}
+use Rattle.moves.proofs.Linked.{Rec, nameL, beginL, endL, setL, skipL, ifL, elseL, fiL, fromL, loopL, untilL, callL, uncallL, Prog, forget, off}
+use Rattle.moves.proofs.Cuts.{Cut, Local, Wf, Good, Sits}
 use Rattle.moves.proofs.Rows.{prog}
 use Rattle.moves.proofs.Links.{at-is}
 use Rattle.moves.proofs.Gaps.{tip}
 use Rattle.moves.proofs.View.{stack, view}
-use Rattle.moves.proofs.Match.{Placed, cut-fits, placed-fits, fits-placed}
+use Rattle.moves.proofs.Match.{cut-fits, placed-fits, fits-placed}
 use Rattle.moves.proofs.Accepted.{accepted-wf}
 use Rattle.table.proofs.Tabled.{Tabled, openOf, is-if, is-until}
 use Rattle.fits.specs.Fits.{entryAt, chained, left, gapIs, startOf, gapFits, edgeFits, fitsIn}
-use Rattle.fits.proofs.Nest.{Lies, in-some, there}
+use Rattle.fits.proofs.Cases.{by, clash}
+use Rattle.fits.proofs.Nest.{in-some, there}
 use Rattle.fits.proofs.Few.{frames-few}
 use Rattle.fits.proofs.Entries.{kind-is, middle-at, open-is, owner-is, down-is, up-is}
-use Rattle.fits.proofs.Chains.{by, clash, stand, chain, chained-is, Found, sound, complete}
+use Rattle.fits.proofs.Chains.{stand, chain, chained-is, Found, sound, complete}
 
 -- ---- answers
 answer : {X : Type 0} (b : Bool) → (b ≡ true → X) → (X → b ≡ true) → Decides b X

@@ -21,8 +21,7 @@ entryAt tab start x = slotAt 9344 tab (start + x)
 abbrev pub numberOf : ℕ → ℕ → ℕ
 numberOf k l = 1 + (1024 * k + l)
 
--- Where one stands on the way outward through the frames: the innermost construct that is open (as the table's OPEN says it), the procedure,
--- and how many calls were passed. Not `ok`: some frame was not what stands there.
+-- On the way outward: the innermost open construct, the procedure, the calls passed. Here some frame was not what stands there.
 abbrev pub lost : Chain
 lost = record { ok = false; within = 0; proc = 0; calls = 0 }
 

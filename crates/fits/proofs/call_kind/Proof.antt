@@ -1,5 +1,4 @@
 -- `fits::call_kind` meets its contract: the cases of `Cases`. Assumes nothing.
-use borrow.Author.Needs.{needs}
 use Rattle.fits.proofs.Cases.{answers}
 use Rattle.fits.proofs.call_kind.Statement.{statement}
 use Rattle.fits.proofs.call_kind.Tie as tie

@@ -1,5 +1,4 @@
 -- `fits::ends` meets its contract: the cases of `Cases`. Assumes nothing.
-use borrow.Author.Needs.{needs}
 use Rattle.fits.proofs.Cases.{answers}
 use Rattle.fits.proofs.ends.Statement.{statement}
 use Rattle.fits.proofs.ends.Tie as tie
