@@ -154,6 +154,7 @@ pub fn all() -> Vec<Case> {
         open_constructs(),
         missing_numbers(),
         own_names(),
+        indices(),
         faults_in_order(),
     ];
     groups.into_iter().flatten().collect()
@@ -841,6 +842,27 @@ fn own_names() -> Vec<Case> {
 }
 
 /// The first of two or more faults in one file.
+/// An index is a step's business: the check accepts 1,023, 1,024 and -1 of a length 1,024 alike.
+fn indices() -> Vec<Case> {
+    [1023, 1024, -1]
+        .iter()
+        .map(|&i| {
+            let read = to_scalar(SetOperator::Plus, 0, array(0, constant(i)));
+            let list = [
+                names(1, &[1024]),
+                Record::Begin,
+                Record::Set(read),
+                Record::End,
+            ];
+            case(
+                &format!("index {i} of a length 1,024"),
+                encode(&list),
+                "accepted 4 1 1025",
+            )
+        })
+        .collect()
+}
+
 fn faults_in_order() -> Vec<Case> {
     let own = Record::Set(to_scalar(SetOperator::Plus, 0, scalar(0)));
     let gone = Record::Set(to_scalar(SetOperator::Plus, 9, constant(1)));
