@@ -7,6 +7,7 @@ use crate::machine::{run, run_back, Run};
 use crate::number::Refusal;
 use crate::place::{Direction, Place};
 use crate::program::Program;
+use crate::recheck::{recheck, sized};
 use crate::session::Session;
 use crate::vectors::Family;
 use crate::walk::walks;
@@ -21,7 +22,7 @@ use std::process::ExitCode;
 pub const USAGE: &str = "usage: second run | check FILE | start FILE SESSION [down|up] | \
 step FILE SESSION [N] | back FILE SESSION [N] | set FILE SESSION CELL VALUE | \
 show FILE SESSION | vectors NAME | expect NAME | walks SEED COUNT | examples DIR | \
-workloads DIR";
+workloads DIR | recheck N | sized BYTES";
 
 /// The steps that `run` makes at most.
 const RUN_STEPS: u32 = 1_000_000;
@@ -83,6 +84,8 @@ enum Command {
     Walks(u32, u32),
     Examples(PathBuf),
     Workloads(PathBuf),
+    Recheck(u32),
+    Sized(u32),
 }
 
 impl Command {
@@ -114,6 +117,8 @@ impl Command {
             ("walks", [seed, count]) => Command::Walks(natural(seed)?, natural(count)?),
             ("examples", [folder]) => Command::Examples(folder.into()),
             ("workloads", [folder]) => Command::Workloads(folder.into()),
+            ("recheck", [n]) => Command::Recheck(natural(n)?),
+            ("sized", [bytes]) => Command::Sized(natural(bytes)?),
             _ => return None,
         })
     }
@@ -132,6 +137,8 @@ impl Command {
             Command::Walks(seed, count) => walk(*seed, *count),
             Command::Examples(folder) => write_examples(folder),
             Command::Workloads(folder) => write_workloads(folder),
+            Command::Recheck(n) => Ok(recheck(&mut read_standard_input()?, *n)),
+            Command::Sized(bytes) => write_sized(*bytes),
         }
     }
 }
@@ -168,10 +175,13 @@ fn integer(word: &OsStr) -> Option<i32> {
     i32::try_from(value).ok()
 }
 
+fn read_standard_input() -> Result<Vec<u8>, Trouble> {
+    read_at_most(io::stdin().lock(), MAX_FILE + 1)
+        .map_err(|reason| Trouble::File("standard input".to_string(), reason))
+}
+
 fn run_standard_input() -> Result<String, Trouble> {
-    let file = read_at_most(io::stdin().lock(), MAX_FILE + 1)
-        .map_err(|reason| Trouble::File("standard input".to_string(), reason))?;
-    let program = check(&file)?;
+    let program = check(&read_standard_input()?)?;
     let mut store = vec![0; program.cells()];
     let place = Place::start(&program, Direction::Down);
     let ran = run(&program, &place, &mut store, RUN_STEPS);
@@ -214,6 +224,15 @@ fn write_workloads(folder: &Path) -> Result<String, Trouble> {
         .into_iter()
         .map(|workload| (workload.file_name(), workload.tree.encode()));
     write_files(folder, files.collect())
+}
+
+/// A program file's bytes on standard output, and so no text.
+fn write_sized(bytes: u32) -> Result<String, Trouble> {
+    let file = sized(bytes as usize).ok_or(Trouble::WrongWords)?;
+    io::stdout()
+        .write_all(&file)
+        .map_err(|reason| Trouble::File("standard output".to_string(), reason))?;
+    Ok(String::new())
 }
 
 fn write_files(folder: &Path, files: Vec<(String, Vec<u8>)>) -> Result<String, Trouble> {

@@ -22,6 +22,7 @@ pub mod order;
 pub mod place;
 pub mod program;
 pub mod raw_session;
+pub mod recheck;
 pub mod record;
 pub mod rng;
 pub mod session;

@@ -90,8 +90,13 @@ fn with_example(name: &str) -> Folder {
 }
 
 fn run_on(input: &[u8]) -> Said {
+    said_on("run", input)
+}
+
+/// What a command says with this standard input.
+fn said_on(words: &str, input: &[u8]) -> Said {
     let mut child = Command::new(env!("CARGO_BIN_EXE_second"))
-        .arg("run")
+        .args(words.split_whitespace())
         .stdin(Stdio::piped())
         .stdout(Stdio::piped())
         .stderr(Stdio::piped())
@@ -114,6 +119,41 @@ fn run_prints_the_document_s_output() {
         "steps 12 stop 30\nat 7 8 down\ncell 0 3\ncell 1 3\n"
     );
     assert_eq!((said.err.as_str(), said.status), ("", 0));
+}
+
+#[test]
+fn recheck_counts_what_it_accepts_and_ends_on_the_file_itself() {
+    let said = said_on("recheck 5", &example().encode());
+    assert_eq!(said.out, "calls 5 accepted 5 last 0 0\n");
+    assert_eq!((said.err.as_str(), said.status), ("", 0));
+    assert_eq!(
+        said_on("recheck 4", &[]).out,
+        "calls 4 accepted 0 last 6 0\n"
+    );
+    // Without its scalar the SET is 7, and each odd turn has it again.
+    let mut lacking = tree(1, &[], vec![vec![plus(0, constant(1))]]).encode();
+    lacking[4] = 0;
+    assert_eq!(
+        said_on("recheck 7", &lacking).out,
+        "calls 7 accepted 3 last 7 2\n"
+    );
+}
+
+#[test]
+fn a_sized_file_is_accepted_and_nearly_that_long() {
+    for size in [1_024, 8_192, 32_768] {
+        let file = second::recheck::sized(size).expect("a file");
+        assert!(
+            file.len() <= size && file.len() + 300 > size,
+            "{}",
+            file.len()
+        );
+        assert_eq!(
+            said_on("recheck 2", &file).out,
+            "calls 2 accepted 2 last 0 0\n"
+        );
+    }
+    assert_eq!(second::recheck::sized(10), None);
 }
 
 #[test]
