@@ -1,0 +1,133 @@
+-- The decision does what the step on cuts says: one case for each kind of record and direction.
+use Prim.Native.Nat.{ℕ, zero, suc, _+_, _-_, _≤_, _<_, pred}
+use mathlib.Core.Path.{_≡_, refl, sym, ap, ap₂, _∙_, subst}
+use mathlib.Core.Bool.{Bool, true, false, cond, not, _&&_}
+use mathlib.Core.List.{List, [], _∷_, _++_}
+use lib.ListN.{length, getD}
+use lib.Dec.{ltb, leb, eqb}
+use lib.IntN.{ℤ, pos, negsuc}
+use native.Mathlib.Omega.{arith}
+use native.Mathlib.Numerals.{add-one}
+use borrow.Author.Tests.{eq-eqb, ne-eqb, lt-ltb, ltb-true, ltb-false, le-leb, lt-leb}
+use Rattle.values.specs.Values.{isTrue}
+use Rattle.expr.specs.Tree.{Expr, byZero, badIndex as outside, Worth, value, stop, eval}
+use Rattle.expr.specs.Bytes.{parse}
+use Rattle.expr.specs.Answers.{arraysOf, worthAt}
+use Rattle.place.specs.Places.{Dir, down, up, opp, Frame, inThen, inElse, inDo, inLoop, called, frameKind, frameLabel}
+use Rattle.place.specs.Slots.{dirNumber, held}
+use Rattle.program.specs.Records.{Target, Record, names, begin, end, set, if, else, fi, from, loop, until, call, uncall, skip, kind, there}
+use Rattle.program.specs.Trees.{Tree, procedures, recordsOf}
+use Rattle.program.specs.Says.{Accepts, word, thereIn}
+use Rattle.program.specs.Reading.{recordAs}
+use Rattle.program.specs.Walk.{offsets}
+use Rattle.moves.specs.Labels.{at, head}
+use Rattle.moves.specs.Stores.{Reason, wrongValue, atEnd, tooDeep, number, Answer, ok, no, bind, Store, layout, answered, evaluated, holds, assigned}
+use Rattle.moves.specs.Step.{again, same, must}
+use Rattle.moves.proofs.Linked.{Con, Rec, nameL, beginL, endL, setL, skipL, ifL, elseL, fiL, fromL, loopL, untilL, callL, uncallL, Prog, forget, headOf, side, gateL, resume}
+use Rattle.moves.proofs.Cuts.{Cut, met, gap, leave, hub, arm, assign′, pass′, enter′, return′, port, through, cstep, Span, SimpleOk, ProcOk, Local, Wf, Good, in-main, by-call, by-uncall, Sits}
+use Rattle.moves.proofs.Loop.{fit, fit1, fit3, fit-gate, gate-pos, lo-met, hi-met, pos1, not-begin, not-end}
+use Rattle.moves.proofs.Rows.{prog}
+use Rattle.moves.proofs.Links.{at-is, head-is}
+use Rattle.moves.proofs.Gaps.{tip}
+use Rattle.moves.proofs.View.{stack, view, fresh-stack, side-call, side-uncall, encl-left}
+use Rattle.moves.proofs.Accepted.{accepted-wf}
+use Rattle.table.proofs.Tabled.{Tabled, Part, is-if, is-else, is-fi, is-from, is-loop, is-until}
+use Rattle.machine.specs.declared.decide.Spot.{Spot}
+use Rattle.machine.specs.declared.decide.Move.{Move}
+use Rattle.machine.specs.Decide.{lookIn, otherOf, alongOf, truthOf, refusedOf, keptOf, pushedOf, poppedOf, changedOf, headIn, middleIn, tailIn, chosenOf, closedOf, againOf, openedOf, repeatedOf, testedOf, assignedOf, Ruled, ruled, Rules, afterSet, ruleOf}
+use Rattle.machine.specs.Sets.{Leaves, setAt}
+use Rattle.machine.proofs.DecideCases.{rule-set, rule-skip, rule-call, rule-uncall, rule-return, rule-test}
+use Rattle.machine.proofs.Labels.{small, inside, read-at, near, offset-is, along-is}
+use Rattle.machine.proofs.Landing.{topKind, topLabel, spotAt, again-is, Fate, keeps, pushes, pops, changes}
+use Rattle.machine.proofs.Sets.{Agrees, worth-is, set-is}
+
+pub clash : {X : Type 0} {b : Bool} → b ≡ true → b ≡ false → X
+clash p q = absurd (let z : _≡_ {A = ℕ} 0 1 = cc in let y : ⊥ = omega arith in y)
+
+pub fate-of : (P : Prog) (fs : List Frame) (σ : Store) (x : Ruled) (m : Move) (τ : Store) (a : Answer (Cut × Store)) → Rules x m τ → Fate P fs σ (ruled m τ) a → Fate P fs σ x a
+fate-of P fs σ x m τ a r h = let e : ruled m τ ≡ x = λ i. record { move = r .made i; store = r .left i } in subst (λ x. Fate P fs σ x a) e h
+
+module _ {f : List ℕ} {t : Tree} (A : Accepts f t) {tab : List ℕ} (T : Tabled t f tab) {arr : List ℕ} (G : Agrees t arr) where
+  abbrev P : Prog
+  P = prog t
+
+  pub w : Wf t (prog t)
+  w = accepted-wf A
+
+  -- ---- the table's entries at the label of a record
+  module _ (b : ℕ) (h : b < length (recordsOf t)) (ρ : Rec) (e : P .at b ≡ ρ) where
+    pub kind-at : lookIn tab (1024 + b) ≡ kind (forget ρ)
+    kind-at = near A T 1024 b (omega arith) h ∙ T .kinds b h ∙ ap kind (at-is t b ∙ ap forget e)
+
+    pub head-at : lookIn tab (2048 + b) ≡ headOf ρ
+    head-at = near A T 2048 b (omega arith) h ∙ T .heads b h ∙ head-is t b ∙ ap headOf e
+
+    pub record-is : recordAs (kind (forget ρ)) f (lookIn tab b) ≡ forget ρ
+    record-is = subst (λ r. recordAs (kind r) f (lookIn tab b) ≡ r) (at-is t b ∙ ap forget e) (ap (recordAs (kind (at t b)) f) (offset-is A T b h) ∙ read-at A b h)
+
+  pub middle-at : (b : ℕ) → b < length (recordsOf t) → (c : Con) → Part P c b → lookIn tab (3072 + b) ≡ c .m
+  middle-at b h c p = near A T 3072 b (omega arith) h ∙ T .middles b c h p
+
+  pub tail-at : (b : ℕ) → b < length (recordsOf t) → (c : Con) → Part P c b → lookIn tab (4096 + b) ≡ c .r
+  tail-at b h c p = near A T 4096 b (omega arith) h ∙ T .tails b c h p
+
+  -- ---- a test: by what its expression holds
+  truth-fate : (fs : List Frame) (σ : Store) (S : Spot) (k : ℕ) (x : Worth) (K : Bool → Answer (Cut × Store))
+      → Fate P fs σ (ruled (testedOf S k 1 tab) σ) (K true) → Fate P fs σ (ruled (testedOf S k 0 tab) σ) (K false)
+      → Fate P fs σ (ruled (testedOf S k (truthOf x) tab) σ) (bind (bind (answered x) (λ v. ok (isTrue v))) K)
+  unfolding bind testedOf
+  truth-fate fs σ S k (value (pos zero)) K hy hn = hn
+  truth-fate fs σ S k (value (pos (suc n))) K hy hn = hy
+  truth-fate fs σ S k (value (negsuc n)) K hy hn = hy
+  truth-fate fs σ S k (stop byZero) K hy hn = (refl, refl)
+  truth-fate fs σ S k (stop outside) K hy hn = (refl, refl)
+
+  pub test-fate : (fs : List Frame) (σ : Store) (S : Spot) (k : ℕ) (e : Expr) (K : Bool → Answer (Cut × Store)) → lookIn tab (1024 + S .b) ≡ k → 4 < k → k < 11
+      → parse 16 f (lookIn tab (S .b) + 4) .tree ≡ e
+      → Fate P fs σ (ruled (testedOf S k 1 tab) σ) (K true) → Fate P fs σ (ruled (testedOf S k 0 tab) σ) (K false)
+      → Fate P fs σ (ruleOf f tab arr S σ) (bind (holds t σ e) K)
+  unfolding holds evaluated
+  test-fate fs σ S k e K kk lo hi tree hy hn =
+      fate-of P fs σ (ruleOf f tab arr S σ) (testedOf S k (truthOf (eval (layout t) σ e)) tab) σ (bind (holds t σ e) K)
+      (rule-test f tab arr S σ k (lookIn tab (S .b)) (sym kk) refl (testedOf S k (truthOf (eval (layout t) σ e)) tab) (λ e. omega arith) (λ e. omega arith) (λ e. omega arith) (λ e. omega arith) (truthOf (eval (layout t) σ e)) (omega arith) refl
+      (ap truthOf (sym (ap (eval (arraysOf arr) σ) tree ∙ worth-is t arr G σ e))))
+      (truth-fate fs σ S k (eval (layout t) σ e) K hy hn)
+
+  pub tree-if : (o : ℕ) (e : Expr) → recordAs 5 f o ≡ if e → parse 16 f (o + 4) .tree ≡ e
+  unfolding recordAs
+  tree-if o e q = cc
+
+  pub tree-fi : (o : ℕ) (e : Expr) → recordAs 7 f o ≡ fi e → parse 16 f (o + 4) .tree ≡ e
+  unfolding recordAs
+  tree-fi o e q = cc
+
+  pub tree-from : (o : ℕ) (e : Expr) → recordAs 8 f o ≡ from e → parse 16 f (o + 4) .tree ≡ e
+  unfolding recordAs
+  tree-from o e q = cc
+
+  pub tree-until : (o : ℕ) (e : Expr) → recordAs 10 f o ≡ until e → parse 16 f (o + 4) .tree ≡ e
+  unfolding recordAs
+  tree-until o e q = cc
+
+  -- ---- closing and opening, by the frame
+  module _ (fs : List Frame) (σ : Store) (S : Spot) (K : Answer (Cut × Store)) where
+    abbrev To : Move → Answer (Cut × Store) → Type 0
+    To m a = Fate P fs σ (ruled m σ) a
+
+    pub close-then : S .kind ≡ 0 → To (poppedOf S (alongOf tab (S .direction) (S .b))) K → To (closedOf S 1 tab) K × To (closedOf S 0 tab) (no wrongValue)
+    unfolding closedOf
+    close-then q h = rw (eq-eqb (S .kind) 0 q) (h, (refl, refl))
+
+    pub close-else : S .kind ≡ 1 → To (poppedOf S (alongOf tab (S .direction) (S .b))) K → To (closedOf S 0 tab) K × To (closedOf S 1 tab) (no wrongValue)
+    unfolding closedOf
+    close-else q h = rw (ne-eqb (S .kind) 0 (λ e. omega arith)) (h, (refl, refl))
+
+    pub open-out : (y : ℕ) → againOf S (headIn S tab) ≡ false → To (pushedOf S (alongOf tab (S .direction) y) 2 (headIn S tab)) K
+        → To (openedOf S 1 y tab) K × To (openedOf S 0 y tab) (no wrongValue)
+    unfolding openedOf
+    open-out y q h = rw q (h, (refl, refl))
+
+    pub open-in : (y : ℕ) → againOf S (headIn S tab) ≡ true → To (changedOf S (alongOf tab (S .direction) y) 2) K
+        → To (openedOf S 0 y tab) K × To (openedOf S 1 y tab) (no wrongValue)
+    unfolding openedOf
+    open-in y q h = rw q (h, (refl, refl))

@@ -1,0 +1,79 @@
+-- A SET read from the bytes of an accepted file, with its table of arrays, is the document's assignment.
+use Prim.Native.Nat.{ℕ, zero, suc, _+_, _≤_, _<_}
+use mathlib.Core.Path.{_≡_, refl, sym, ap, ap₂, _∙_}
+use mathlib.Core.Bool.{Bool, true, false, cond}
+use mathlib.Core.List.{List, [], _∷_}
+use lib.ListN.{length, getD, set as put}
+use lib.Dec.{ltb, eqb}
+use lib.IntN.{ℤ, pos, negsuc}
+use native.Mathlib.Omega.{arith}
+use borrow.Author.Tests.{ne-eqb}
+use Rattle.expr.specs.Tree.{Expr, Arrays, Worth, eval}
+use Rattle.expr.specs.Bytes.{parse}
+use Rattle.expr.specs.Answers.{arraysOf, worthAt}
+use Rattle.expr.proofs.Agree.{eval-agree}
+use Rattle.place.specs.Slots.{dirNumber}
+use Rattle.program.specs.Records.{Target, cell, entry, Record, set}
+use Rattle.program.specs.Trees.{Tree}
+use Rattle.program.specs.Says.{word}
+use Rattle.program.specs.Reading.{recordAs}
+use Rattle.moves.specs.Places.{Dir, down, up}
+use Rattle.moves.specs.Stores.{Answer, ok, no, badIndex, bind, Store, layout, answered, evaluated, applied, operator, entryAt, cellOf, assigned}
+use Rattle.machine.specs.Sets.{operatorAt, worked, entryBy, setTo, setEntry, setAt}
+
+operator-is : (o : ℕ) (d : Dir) → operatorAt o (dirNumber d) ≡ operator o d
+operator-is o down = refl
+operator-is zero up = refl
+operator-is (suc zero) up = refl
+operator-is (suc (suc o)) up = rw (ne-eqb (suc (suc o)) 0 (λ e. omega arith), ne-eqb (suc (suc o)) 1 (λ e. omega arith))
+
+-- the arrays are the tree's
+pub record Agrees (t : Tree) (arr : List ℕ) : Type 0 where
+  pub starts : (a : ℕ) → getD (arraysOf arr .starts) a 0 ≡ getD (layout t .starts) a 0
+  pub lengths : (a : ℕ) → getD (arraysOf arr .lengths) a 0 ≡ getD (t .lengths) a 0
+
+module _ (t : Tree) (arr : List ℕ) (G : Agrees t arr) (σ : Store) where
+  pub worth-is : (e : Expr) → eval (arraysOf arr) σ e ≡ eval (layout t) σ e
+  worth-is e = eval-agree (arraysOf arr) (layout t) σ (G .starts) (G .lengths) e
+
+  entry-is : (a : ℕ) (v : ℤ) → entryBy (arraysOf arr) a v ≡ entryAt t a v
+  entry-is a (pos i) = rw (G .lengths a, G .starts a)
+  entry-is a (negsuc i) = refl
+
+  set-cell-is : (c o : ℕ) (d : Dir) (e : Expr) → setTo c (operatorAt o (dirNumber d)) σ (eval (arraysOf arr) σ e)
+      ≡ bind (evaluated t σ e) (λ v. ok (put σ c (applied (operator o d) (getD σ c (pos 0)) v)))
+  unfolding evaluated
+  set-cell-is c o d e = ap₂ (λ n w. setTo c n σ w) (operator-is o d) (worth-is e)
+
+  module _ (f : List ℕ) (at : ℕ) (d : Dir) where
+    scalar-is : (o c : ℕ) (e : Expr) → setTo c (operatorAt o (dirNumber d)) σ (eval (arraysOf arr) σ e) ≡ assigned t o (cell c) e d σ
+    unfolding assigned cellOf bind
+    scalar-is o c e = set-cell-is c o d e
+
+    array-is : (o a : ℕ) (i e : Expr)
+        → bind (bind (answered (eval (arraysOf arr) σ i)) (λ v. entryBy (arraysOf arr) a v)) (λ c. setTo c (operatorAt o (dirNumber d)) σ (eval (arraysOf arr) σ e))
+        ≡ assigned t o (entry a i) e d σ
+    unfolding assigned cellOf evaluated
+    array-is o a i e =
+        λ j. bind (bind (answered (worth-is i j)) (λ v. entry-is a v j)) (λ c. set-cell-is c o d e j)
+
+    set-as : (b : Bool) (o : ℕ) (x : Target) (e : Expr)
+        → set (getD f (at + 4) 0) (cond b (cell (word f (at + 6))) (entry (word f (at + 6)) (parse 16 f (at + 8) .tree))) (parse 16 f (cond b (at + 8) (parse 16 f (at + 8) .next)) .tree)
+        ≡ set o x e
+        → cond b (setTo (word f (at + 6)) (operatorAt (getD f (at + 4) 0) (dirNumber d)) σ (worthAt arr σ (parse 16 f (at + 8))))
+        (setEntry f (at + 8) (word f (at + 6)) (operatorAt (getD f (at + 4) 0) (dirNumber d)) arr σ) ≡ assigned t o x e d σ
+    unfolding setEntry
+    set-as true o x e q =
+        let eo : getD f (at + 4) 0 ≡ o = cc in
+        let ex : cell (word f (at + 6)) ≡ x = cc in
+        let ee : parse 16 f (at + 8) .tree ≡ e = cc in
+        scalar-is _ _ _ ∙ (λ j. assigned t (eo j) (ex j) (ee j) d σ)
+    set-as false o x e q =
+        let eo : getD f (at + 4) 0 ≡ o = cc in
+        let ex : entry (word f (at + 6)) (parse 16 f (at + 8) .tree) ≡ x = cc in
+        let ee : parse 16 f (parse 16 f (at + 8) .next) .tree ≡ e = cc in
+        array-is _ _ _ _ ∙ (λ j. assigned t (eo j) (ex j) (ee j) d σ)
+
+    pub set-is : (o : ℕ) (x : Target) (e : Expr) → recordAs 4 f at ≡ set o x e → setAt f at (dirNumber d) arr σ ≡ assigned t o x e d σ
+    unfolding setAt recordAs
+    set-is o x e q = set-as (eqb (getD f (at + 5) 0) 0) o x e q

@@ -1,0 +1,89 @@
+-- The loop of a run, turn by turn: what is left to run is the run's. Assumes nothing.
+use mathlib.Core.Path.{_≡_, refl, sym, ap, _∙_}
+use mathlib.Core.List.{List}
+use mathlib.Core.Bool.{Bool, true, false, cond}
+use Prim.Native.Nat.{ℕ, zero, suc, _+_, _-_, _≤_, _<_}
+use native.Mathlib.Numerals.{add-one}
+use native.Mathlib.Omega.{arith}
+use borrow.Author.Tests.{eq-eqb, ne-eqb, lt-ltb, le-ltb, le-leb, lt-leb}
+use lib.Dec.{ltb, leb, eqb}
+use lib.ListN.{getD, set}
+use Rattle.place.specs.declared.Place.{Place as Held}
+use Rattle.place.specs.Methods.{topAt}
+use Rattle.moves.specs.Stores.{Store}
+use Rattle.machine.specs.declared.decide.Spot.{Spot}
+use Rattle.machine.specs.declared.decide.Move.{Move}
+use Rattle.machine.specs.declared.walk.Went.{Went}
+use Rattle.machine.specs.Decide.{Rules, ruleOf}
+use Rattle.machine.specs.Walk.{putIn, callsIn, callsOf, spotOf, afterOf, Gone, gone, goOf, Goes}
+
+pub put-near : (s : List ℕ) (i v : ℕ) → i < 1104 → set s i v ≡ putIn s i v
+unfolding putIn
+put-near s i v h = rw (lt-ltb i 1104 h)
+
+pub put-far : (s : List ℕ) (i v : ℕ) → 1104 ≤ i → s ≡ putIn s i v
+unfolding putIn
+put-far s i v h = rw (le-ltb i 1104 h)
+
+pub ruleset puts = (put-near, put-far)
+
+-- ---- counting calls
+module _ (s : List ℕ) (i n : ℕ) (e : n ≡ callsIn s i) where
+  pub count-call : getD s i 0 ≡ 4 → n + 1 ≡ callsIn s (i + 1)
+  unfolding callsIn
+  count-call h = rw (add-one i, eq-eqb (getD s i 0) 4 h, add-one n) (ap suc e)
+
+  pub count-other : (getD s i 0 ≡ 4 → ⊥) → n ≡ callsIn s (i + 1)
+  unfolding callsIn
+  count-other h = rw (add-one i, ne-eqb (getD s i 0) 4 h) e
+
+pub calls-none : (s : List ℕ) → 0 ≡ callsIn s 0
+unfolding callsIn
+calls-none s = refl
+
+pub calls-near : (s : List ℕ) (n r : ℕ) → n ≤ 1104 → r ≡ callsIn s n → r ≡ callsOf s n
+calls-near s n r h e = rw (le-leb n 1104 h) e
+
+pub calls-far : (s : List ℕ) (n : ℕ) → 1104 < n → 0 ≡ callsOf s n
+calls-far s n h = rw (lt-leb n 1104 h)
+
+pub ruleset counts = (calls-near, calls-far)
+
+-- ---- a turn
+module _ (f tab arr : List ℕ) (n : ℕ) (q₀ : Held) (c₀ : ℕ) (σ₀ : Store) (made : ℕ) (h : Held) (c : ℕ) (σ : Store)
+    (inv : goOf (ruleOf f tab arr) n q₀ c₀ σ₀ 0 ≡ goOf (ruleOf f tab arr) (n - made) h c σ made) where
+  abbrev spot : ℕ → ℕ → Spot
+  spot k l = record { direction = h .direction; b = h .b; calls = c; count = h .count; kind = k; label = l }
+
+  goes : (r : Went) (τ : Store) → goOf (ruleOf f tab arr) n q₀ c₀ σ₀ 0 ≡ record { went = r; store = τ } → Goes (goOf (ruleOf f tab arr) n q₀ c₀ σ₀ 0) r τ
+  goes r τ e = record { went = sym (ap (λ (g : Gone). g .went) e); left = sym (ap (λ (g : Gone). g .store) e) }
+
+  pub goes-done : n ≤ made → Goes (goOf (ruleOf f tab arr) n q₀ c₀ σ₀ 0) (record { reason = 0; steps = made; place = h }) σ
+  unfolding goOf
+  goes-done k = let z : n - made ≡ 0 = omega arith in goes _ σ (inv ∙ rw z)
+
+  module _ (k l : ℕ) (kk : k ≡ topAt (h .kinds) (h .count) 9) (ll : l ≡ topAt (h .labels) (h .count) 0) (m : Move) (τ : Store)
+      (rules : Rules (ruleOf f tab arr (spot k l) σ) m τ) (more : made < n) where
+    left : n - made ≡ suc (n - (made + 1))
+    left = omega arith
+
+    move-is : ruleOf f tab arr (spotOf h c) σ .move ≡ m
+    move-is = sym (rules .made ∙ rw (kk, ll))
+
+    store-is : ruleOf f tab arr (spotOf h c) σ .store ≡ τ
+    store-is = sym (rules .left ∙ rw (kk, ll))
+
+    pub goes-refused : (m .reason ≡ 0 → ⊥) → Goes (goOf (ruleOf f tab arr) n q₀ c₀ σ₀ 0) (record { reason = m .reason; steps = made; place = h }) τ
+    unfolding goOf
+    goes-refused e = goes _ τ (inv ∙ rw (left, move-is, store-is, ne-eqb (m .reason) 0 e))
+
+    pub goes-on : m .reason ≡ 0 → (ks ls : List ℕ) → ks ≡ putIn (h .kinds) (m .slot) (m .kind) → ls ≡ putIn (h .labels) (m .slot) (m .label)
+        → goOf (ruleOf f tab arr) n q₀ c₀ σ₀ 0
+        ≡ goOf (ruleOf f tab arr) (n - (made + 1)) (record { direction = m .direction; a = m .a; b = m .b; count = m .count; kinds = ks; labels = ls }) (m .calls) τ (made + 1)
+    unfolding goOf
+    goes-on e ks ls ek el = inv ∙ rw (left, move-is, store-is, eq-eqb (m .reason) 0 e, ek, el)
+
+pub go-start : (f tab arr : List ℕ) (n : ℕ) (q : Held) (c : ℕ) (σ : Store) → goOf (ruleOf f tab arr) n q c σ 0 ≡ goOf (ruleOf f tab arr) (n - 0) q c σ 0
+go-start f tab arr n q c σ = let z : n - 0 ≡ n = omega arith in rw z
+
+pub ruleset turns = (goes-done, goes-refused, goes-on, go-start)

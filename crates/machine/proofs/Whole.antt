@@ -1,0 +1,183 @@
+-- What the public functions compute is what Answers says, for every file, struct and store.
+use Prim.Native.Nat.{ℕ, zero, suc, _+_, _≤_, _<_}
+use mathlib.Core.Path.{_≡_, refl, sym, ap, ap₂, _∙_, subst}
+use mathlib.Core.Bool.{Bool, true, false, cond, not}
+use mathlib.Core.List.{List, [], _∷_, _++_, map, reverse, reverse-cons, append-assoc}
+use lib.ListN.{length, getD, take, drop, replicate, length-map, length-reverse, length-drop, length-replicate}
+use lib.Seq.{getD-at, take-all, length-sets}
+use lib.Dec.{eqb, leb}
+use native.Mathlib.Omega.{arith}
+use borrow.Author.Tests.{eqb-true, eqb-false, le-leb}
+use Rattle.codes.specs.Codes.{AllBytes}
+use Rattle.place.specs.declared.Place.{Place as Held}
+use Rattle.place.specs.Places.{Dir, opp, Frame, frameKind, Place, turn}
+use Rattle.place.specs.Slots.{held, slots, Decides}
+use Rattle.place.specs.Methods.{turnedOf}
+use Rattle.place.proofs.Laws.{turned-held, turned-twice}
+use Rattle.program.specs.Trees.{Tree, recordsOf, cells, procedures}
+use Rattle.program.specs.Says.{Accepts, Says}
+use Rattle.program.specs.Arrays.{arraysAt}
+use Rattle.program.specs.Check.{checkOf}
+use Rattle.program.specs.declared.Checked.{Checked}
+use Rattle.program.specs.declared.Checked.the-variants.{Accepted, Refused as RefusedFile}
+use Rattle.program.proofs.ArrayTree.{starting, arrays-start, arrays-length}
+use Rattle.program.proofs.CheckSays.{TreeOf, says, accepted-tree}
+use Rattle.moves.specs.Places.{calls, Fits}
+use Rattle.moves.specs.Stores.{Reason, atEnd, wrongValue, zeroDivisor, badIndex, tooDeep, number, Answer, ok, no, bind, Store, startsFrom}
+use Rattle.moves.specs.Step.{step, stepBack}
+use Rattle.moves.specs.Runs.{Stop, made, because, stopNumber, onward, runBy, run, runBack}
+use Rattle.moves.specs.Runs as runs
+use Rattle.moves.proofs.Accepted.{accepted-wf}
+use Rattle.moves.proofs.Match.{Placed, fits-placed}
+use Rattle.moves.proofs.Undo.{turn-turn, turn-fits}
+use Rattle.table.specs.Table.{tableOf}
+use Rattle.table.proofs.Tabled.{Tabled, tabled}
+use Rattle.fits.specs.Fits.{fitsIn}
+use Rattle.fits.proofs.FitsLaw.{fits-law}
+use Rattle.machine.specs.declared.Told.{Told}
+use Rattle.machine.specs.declared.Told.the-variants.{Done, Refused}
+use Rattle.machine.specs.declared.Ran.{Ran}
+use Rattle.machine.specs.Decide.{ruleOf}
+use Rattle.machine.specs.Walk.{callsIn, callsOf, Gone, gone, goOf}
+use Rattle.machine.specs.Whole.{toldBy, staying, Result, result, Runs, wentTo, checkedRun}
+use Rattle.machine.specs.Answers.{Before, program, size, place, Ready, StepSays, refused, stopped, arrived, toldOf, RunSays, ran}
+use Rattle.machine.proofs.Room.{room}
+use Rattle.machine.proofs.Sets.{Agrees}
+use Rattle.machine.proofs.Steps.{walked}
+
+-- ---- the tables of an accepted file
+starting-is : (n : ℕ) (ls : List ℕ) → starting n ls ≡ startsFrom n ls
+unfolding starting startsFrom
+starting-is n [] = refl
+starting-is n (l ∷ ls) = ap (λ x. n ∷ x) (starting-is (n + l) ls)
+
+arrays-long : (f : List ℕ) → length (arraysAt f) ≡ 32
+unfolding arraysAt
+arrays-long f = simp (length-sets, length-replicate)
+
+pub agrees : (f : List ℕ) (t : Tree) → Accepts f t → Agrees t (arraysAt f)
+agrees f t A = record {
+  starts = λ a. arrays-start f t A a ∙ ap (λ (l : List ℕ). getD l a 0) (starting-is (t .scalars) (t .lengths));
+  lengths = λ a. ap (λ (l : List ℕ). getD l a 0) (take-all 16 (drop 16 (arraysAt f)) (omega (arith, length-drop 16 (arraysAt f), arrays-long f))) ∙ arrays-length f t A a;
+}
+
+-- ---- the calls among the frames
+calls-are : (fs : List Frame) (r : List ℕ) → callsIn (reverse (map frameKind fs) ++ r) (length fs) ≡ calls fs
+unfolding callsIn
+calls-are [] r = refl
+calls-are (i ∷ F) r =
+    rw (
+      reverse-cons (frameKind i) (map frameKind F),
+      append-assoc (reverse (map frameKind F)),
+      getD-at (reverse (map frameKind F)) (frameKind i) r 0 (length F) (length-reverse (map frameKind F) ∙ length-map F frameKind),
+      calls-are F (frameKind i ∷ r),
+    )
+
+calls-held : (p : Place) → length (p .frames) ≤ 1104 → callsOf (held p .kinds) (held p .count) ≡ calls (p .frames)
+calls-held p h = rw (le-leb (length (p .frames)) 1104 h) (calls-are (p .frames) _)
+
+told-is : (s : Stop) → toldBy (stopNumber s) ≡ toldOf s
+told-is made = refl
+told-is (because atEnd) = refl
+told-is (because wrongValue) = refl
+told-is (because zeroDivisor) = refl
+told-is (because badIndex) = refl
+told-is (because tooDeep) = refl
+
+-- ---- a run forward
+module _ (f : List ℕ) (q : Held) (σ : Store) (n : ℕ) where
+  abbrev Says-run : Ran → Store → Type 0
+  Says-run r τ = RunSays run f q σ n (r .told) (r .steps) (r .place) τ
+
+  says-result : (x : Result) (r : Ran) (τ : Store) → Runs x r τ → Says-run (x .ran) (x .store) → Says-run r τ
+  says-result x r τ h s = subst (λ (y : Result). Says-run (y .ran) (y .store)) (λ i. record { ran = sym (h .ran) i; store = sym (h .left) i }) s
+
+  module _ (t : Tree) (A : Accepts f t) where
+    fitting : length σ ≡ cells t → (p : Place) → q ≡ held p → Fits t p → let x = wentTo (goOf (ruleOf f (tableOf f) (arraysAt f)) n q (callsOf (q .kinds) (q .count)) σ 0) in Says-run (x .ran) (x .store)
+    fitting e p h fit =
+        let k = fits-placed t (accepted-wf A) p fit in
+        let room-p : length (p .frames) ≤ 1104 = subst (λ p. length (p .frames) ≤ 1104) (sym (k .is)) (room A (k .cut) (k .sits)) in
+        let g : goOf (ruleOf f (tableOf f) (arraysAt f)) n q (callsOf (q .kinds) (q .count)) σ 0 ≡ gone (stopNumber (run t n p σ .stop)) (0 + run t n p σ .steps) (held (run t n p σ .place)) (run t n p σ .store) =
+        (λ i. goOf (ruleOf f (tableOf f) (arraysAt f)) n (h i) (callsOf (h i .kinds) (h i .count)) σ 0)
+        ∙ (ap (λ c. goOf (ruleOf f (tableOf f) (arraysAt f)) n (held p) c σ 0) (calls-held p room-p) ∙ walked A (tabled f t A) (agrees f t A) n p fit σ 0) in
+        let z : 0 + run t n p σ .steps ≡ run t n p σ .steps = omega arith in
+        ran (record { accepts = A; sized = e; holds = h; fits = fit })
+        (ap (λ (x : Gone). toldBy (x .went .reason)) g ∙ told-is (run t n p σ .stop))
+        (ap (λ (x : Gone). x .went .steps) g ∙ z)
+        (ap (λ (x : Gone). x .went .place) g)
+        (ap (λ (x : Gone). x .store) g)
+
+    checked-is : (records c : ℕ) → records ≡ length (recordsOf t) → c ≡ cells t → let x = checkedRun f records c q σ n in Says-run (x .ran) (x .store)
+    unfolding checkedRun
+    checked-is records c er ec = go (eqb (length σ) c) refl (fitsIn f (tableOf f) records q) (fits-law f t (tableOf f) records q A (tabled f t A) er)
+      where
+        go : (b : Bool) → eqb (length σ) c ≡ b → (d : Bool) → Decides d ((p : Place) × ((q ≡ held p) × Fits t p))
+            → let x = cond b (cond d (wentTo (goOf (ruleOf f (tableOf f) (arraysAt f)) n q (callsOf (q .kinds) (q .count)) σ 0)) (result (Refused 21 0) 0 q σ)) (result (Refused 20 0) 0 q σ) in Says-run (x .ran) (x .store)
+        go true e true D = fitting (eqb-true _ _ e ∙ ec) (D .0) (D .1 .0) (D .1 .1)
+        go true e false D = refused (place A (eqb-true _ _ e ∙ ec) (λ p h k. D (p, (h, k)))) refl refl refl refl
+        go false e d D = refused (size A (λ h. eqb-false _ _ e (h ∙ sym ec))) refl refl refl refl
+
+  -- an accepted file, as the check answers it
+  pub checked-says : AllBytes f → (records p c : ℕ) → checkOf f ≡ Accepted records p c → (r : Ran) (τ : Store) → Runs (checkedRun f records c q σ n) r τ → Says-run r τ
+  checked-says B records p c e r τ h =
+      let T = accepted-tree f B records p c .0 e in
+      says-result _ r τ h (checked-is (T .tree) (T .accepts) records c (T .records-are) (T .cells-are′))
+
+  pub refused-says : AllBytes f → (m k : ℕ) → checkOf f ≡ RefusedFile m k → (r : Ran) → r ≡ staying m k q → Says-run r σ
+  refused-says B m k e r h =
+      refused (program (subst (Says f) e (says f B))) (ap (λ (r : Ran). r .told) h) (ap (λ (r : Ran). r .steps) h) (ap (λ (r : Ran). r .place) h) refl
+
+-- ---- a run of one is a step
+module _ (move : Tree → Place → Store → Answer (Place × Store)) (f : List ℕ) (q : Held) (σ : Store) where
+  one-step : (t : Tree) (p : Place) → Ready f q σ t p → (a : Answer (Place × Store)) → move t p σ ≡ a → (told : Told) (q′ : Held) (σ′ : Store)
+      → told ≡ toldOf (onward a (λ p σ. runBy (move t) 0 p σ) p σ .stop) → q′ ≡ held (onward a (λ p σ. runBy (move t) 0 p σ) p σ .place) → σ′ ≡ onward a (λ p σ. runBy (move t) 0 p σ) p σ .store
+      → StepSays move f q σ told q′ σ′
+  unfolding runBy
+  one-step t p R (no r) e told q′ σ′ a b c = stopped R e a (b ∙ sym (R .holds)) c
+  one-step t p R (ok x) e told q′ σ′ a b c = arrived R e a b c
+
+  pub step-says : (told : Told) (steps : ℕ) (q′ : Held) (σ′ : Store) → RunSays (λ t. runBy (move t)) f q σ 1 told steps q′ σ′ → StepSays move f q σ told q′ σ′
+  unfolding runBy
+  step-says told steps q′ σ′ (refused b a c d e) = refused b a d e
+  step-says told steps q′ σ′ (ran {t} {p} R a b c d) = one-step t p R (move t p σ) refl told q′ σ′ a c d
+
+-- ---- a run back is a run forward of the place turned round, its last place turned round again
+abbrev turnedRan : runs.Ran → runs.Ran
+turnedRan r = record { steps = r .steps; place = turn (r .place); store = r .store; stop = r .stop }
+
+abbrev turns : Answer (Place × Store) → Answer (Place × Store)
+turns a = bind a (λ s. ok (turn (s .0), s .1))
+
+module _ (t : Tree) where
+  back-step : (p : Place) (σ : Store) → stepBack t (turn p) σ ≡ turns (step t p σ)
+  unfolding stepBack
+  back-step p σ = ap (λ k. turns (step t k σ)) (turn-turn p)
+
+  back-is : (n : ℕ) (p : Place) (σ : Store) → runBack t n (turn p) σ ≡ turnedRan (run t n p σ)
+  unfolding runBy bind
+  back-is zero p σ = refl
+  back-is (suc n) p σ = ap (λ a. onward a (λ p σ. runBy (stepBack t) n p σ) (turn p) σ) (back-step p σ) ∙ go (step t p σ) (back-is n)
+    where
+      go : (a : Answer (Place × Store)) → ((p : Place) (σ : Store) → runBack t n (turn p) σ ≡ turnedRan (run t n p σ))
+          → onward (turns a) (λ p σ. runBy (stepBack t) n p σ) (turn p) σ ≡ turnedRan (onward a (λ p σ. runBy (step t) n p σ) p σ)
+      go (no r) ih = refl
+      go (ok s) ih = ap runs.counted (ih (s .0) (s .1))
+
+module _ (f : List ℕ) (q : Held) (σ : Store) where
+  turned-holds : (p : Place) → turnedOf q ≡ held p → q ≡ held (turn p)
+  turned-holds p h = sym (turned-twice q) ∙ (ap turnedOf h ∙ turned-held p)
+
+  before-turned : {n k : ℕ} → Before f (turnedOf q) σ n k → Before f q σ n k
+  before-turned (program s) = program s
+  before-turned (size A h) = size A h
+  before-turned (place {t} A e h) = place A e (λ p k fit. h (turn p) (ap turnedOf k ∙ turned-held p) (turn-fits t (accepted-wf A) p fit))
+
+  pub back-says : (n : ℕ) (told : Told) (steps : ℕ) (q′ q″ : Held) (σ′ : Store) → RunSays run f (turnedOf q) σ n told steps q′ σ′ → q″ ≡ turnedOf q′
+      → RunSays runBack f q σ n told steps q″ σ′
+  back-says n told steps q′ q″ σ′ (refused b a c d e) k = refused (before-turned b) a c (k ∙ (ap turnedOf d ∙ turned-twice q)) e
+  back-says n told steps q′ q″ σ′ (ran {t} {p} R a b c d) k =
+      let z = back-is t n p σ in
+      ran (record { accepts = R .accepts; sized = R .sized; holds = turned-holds p (R .holds); fits = turn-fits t (accepted-wf (R .accepts)) p (R .fits) })
+      (a ∙ ap (λ (r : runs.Ran). toldOf (r .stop)) (sym z)) (b ∙ ap (λ (r : runs.Ran). r .steps) (sym z))
+      (k ∙ (ap turnedOf c ∙ (turned-held (run t n p σ .place) ∙ ap (λ (r : runs.Ran). held (r .place)) (sym z))))
+      (d ∙ ap (λ (r : runs.Ran). r .store) (sym z))

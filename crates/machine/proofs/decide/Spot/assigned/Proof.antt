@@ -1,0 +1,15 @@
+-- `machine::decide::Spot::assigned` meets its contract: the cases of `DecideCases`. Assumes nothing.
+use borrow.Author.Needs.{needs}
+use Rattle.machine.proofs.DecideCases.{calls}
+use Rattle.machine.proofs.decide.Spot.assigned.Statement.{statement}
+use Rattle.machine.proofs.decide.Spot.assigned.Tie as tie
+
+pub assigned-spec : {M : Type 1} → statement M
+assigned-spec =
+    tie.close
+    (tie.spec
+    (λ c κs. search needs)
+    (λ c κs. search needs)
+    (λ c. search calls)
+    (λ c κs. search needs)
+    (λ c. search calls))

@@ -1,0 +1,20 @@
+-- `machine::decide::Spot::closed` meets its contract: the cases of `DecideCases`. Assumes nothing.
+use borrow.Author.Needs.{needs}
+use Rattle.machine.proofs.DecideCases.{acts}
+use Rattle.machine.proofs.decide.Spot.closed.Statement.{statement}
+use Rattle.machine.proofs.decide.Spot.closed.Tie as tie
+
+pub closed-spec : {M : Type 1} → statement M
+closed-spec =
+    tie.close
+    (tie.spec
+    (λ c κs. search needs)
+    (λ c. search acts)
+    (λ c κs. search needs)
+    (λ c κs. search needs)
+    (λ c. search acts)
+    (λ c κs. search needs)
+    (λ c κs. search needs)
+    (λ c. search acts)
+    (λ c κs. search needs)
+    (λ c. search acts))

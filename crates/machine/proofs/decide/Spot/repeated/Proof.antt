@@ -1,0 +1,16 @@
+-- `machine::decide::Spot::repeated` meets its contract: the cases of `DecideCases`. Assumes nothing.
+use borrow.Author.Needs.{needs}
+use Rattle.machine.proofs.DecideCases.{acts}
+use Rattle.machine.proofs.decide.Spot.repeated.Statement.{statement}
+use Rattle.machine.proofs.decide.Spot.repeated.Tie as tie
+
+pub repeated-spec : {M : Type 1} → statement M
+repeated-spec =
+    tie.close
+    (tie.spec
+    (λ c κs. search needs)
+    (λ c κs. search needs)
+    (λ c. search acts)
+    (λ c κs. search needs)
+    (λ c κs. search needs)
+    (λ c. search acts))

@@ -1,0 +1,14 @@
+-- `machine::decide::along` meets its contract: the cases of `DecideCases`. Assumes nothing.
+use borrow.Author.Needs.{needs}
+use Rattle.machine.proofs.DecideCases.{smalls}
+use Rattle.machine.proofs.decide.along.Statement.{statement}
+use Rattle.machine.proofs.decide.along.Tie as tie
+
+pub along-spec : {M : Type 1} → statement M
+along-spec =
+    tie.close
+    (tie.spec
+    (λ c κs. search needs)
+    (λ c. search smalls)
+    (λ c κs. search needs)
+    (λ c. search smalls))

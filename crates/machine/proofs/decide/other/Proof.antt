@@ -1,0 +1,11 @@
+-- `machine::decide::other` meets its contract: the cases of `DecideCases`. Assumes nothing.
+use Rattle.machine.proofs.DecideCases.{smalls}
+use Rattle.machine.proofs.decide.other.Statement.{statement}
+use Rattle.machine.proofs.decide.other.Tie as tie
+
+pub other-spec : {M : Type 1} → statement M
+other-spec =
+    tie.close
+    (tie.spec
+    (λ c. search smalls)
+    (λ c. search smalls))

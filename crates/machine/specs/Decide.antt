@@ -1,0 +1,147 @@
+-- What a step decides from the table, the innermost frame and the store, for any of them. Nothing here has to be believed:
+-- proofs/Decided joins it to `step`.
+use Prim.Native.Nat.{ℕ, zero, suc, _+_, _-_}
+use mathlib.Core.List.{List}
+use mathlib.Core.Path.{_≡_}
+use mathlib.Core.Bool.{Bool, false, cond}
+use lib.ListN.{getD}
+use lib.Dec.{ltb, leb, eqb}
+use Rattle.values.specs.Values.{isTrue}
+use Rattle.expr.specs.Tree.{Worth, value, stop}
+use Rattle.expr.specs.Answers.{worthAt, faultNumber}
+use Rattle.expr.specs.Bytes.{parse}
+use Rattle.program.specs.Says.{word}
+use Rattle.moves.specs.Stores.{Answer, ok, no, number, Store}
+use Rattle.machine.specs.Sets.{setAt}
+use Rattle.machine.specs.declared.decide.Spot.{Spot}
+use Rattle.machine.specs.declared.decide.Move.{Move}
+
+-- an entry of the table, 0 past its end
+unfoldable pub lookIn : List ℕ → ℕ → ℕ
+lookIn tab i = cond (ltb i 9344) (getD tab i 0) 0
+
+abbrev pub moreOf : ℕ → ℕ
+moreOf n = cond (ltb n 1104) (n + 1) n
+
+abbrev pub fewerOf : ℕ → ℕ
+fewerOf n = n - 1
+
+abbrev pub otherOf : ℕ → ℕ
+otherOf d = cond (eqb d 0) 1 0
+
+-- the label one comes to when record y is left in a direction
+unfoldable pub alongOf : List ℕ → ℕ → ℕ → ℕ
+alongOf tab d y = cond (eqb d 0) (lookIn tab (5120 + y)) (lookIn tab (6144 + y))
+
+-- 0 false, 1 true, else the number of what stops it
+abbrev pub truthOf : Worth → ℕ
+truthOf (value v) = cond (isTrue v) 1 0
+truthOf (stop f) = faultNumber f
+
+abbrev pub moving : ℕ → ℕ → ℕ → ℕ → ℕ → ℕ → ℕ → ℕ → ℕ → Move
+moving reason d a b calls count slot kind label =
+    record { reason = reason; direction = d; a = a; b = b; calls = calls; count = count; slot = slot; kind = kind; label = label }
+
+abbrev pub refusedOf : Spot → ℕ → Move
+refusedOf s n = moving n (s .direction) 0 (s .b) (s .calls) (s .count) (s .count) 0 0
+
+abbrev pub keptOf : Spot → ℕ → Move
+keptOf s y = moving 0 (s .direction) (s .b) y (s .calls) (s .count) (s .count) 0 0
+
+abbrev pub pushedOf : Spot → ℕ → ℕ → ℕ → Move
+pushedOf s y k l = moving 0 (s .direction) (s .b) y (s .calls) (moreOf (s .count)) (s .count) k l
+
+abbrev pub poppedOf : Spot → ℕ → Move
+poppedOf s y = moving 0 (s .direction) (s .b) y (s .calls) (fewerOf (s .count)) (fewerOf (s .count)) 0 0
+
+abbrev pub changedOf : Spot → ℕ → ℕ → Move
+changedOf s y k = moving 0 (s .direction) (s .b) y (s .calls) (s .count) (fewerOf (s .count)) k (s .label)
+
+abbrev pub headIn : Spot → List ℕ → ℕ
+headIn s tab = lookIn tab (2048 + s .b)
+
+abbrev pub middleIn : Spot → List ℕ → ℕ
+middleIn s tab = lookIn tab (3072 + s .b)
+
+abbrev pub tailIn : Spot → List ℕ → ℕ
+tailIn s tab = lookIn tab (4096 + s .b)
+
+unfoldable pub chosenOf : Spot → ℕ → List ℕ → Move
+chosenOf s v tab =
+    cond (eqb v 0)
+    (cond (eqb (s .direction) 0) (pushedOf s (alongOf tab (s .direction) (middleIn s tab)) 1 (headIn s tab)) (pushedOf s (alongOf tab (s .direction) (s .b)) 1 (headIn s tab)))
+    (cond (eqb (s .direction) 0) (pushedOf s (alongOf tab (s .direction) (s .b)) 0 (headIn s tab)) (pushedOf s (alongOf tab (s .direction) (middleIn s tab)) 0 (headIn s tab)))
+
+unfoldable pub closedOf : Spot → ℕ → List ℕ → Move
+closedOf s v tab =
+    cond (eqb v 0)
+    (cond (eqb (s .kind) 0) (refusedOf s 31) (poppedOf s (alongOf tab (s .direction) (s .b))))
+    (cond (eqb (s .kind) 0) (poppedOf s (alongOf tab (s .direction) (s .b))) (refusedOf s 31))
+
+-- the innermost frame is in s2 of the loop that is met
+abbrev pub againOf : Spot → ℕ → Bool
+againOf s h = cond (eqb (s .kind) 3) (eqb (s .label) h) false
+
+unfoldable pub openedOf : Spot → ℕ → ℕ → List ℕ → Move
+openedOf s v y tab =
+    cond (againOf s (headIn s tab))
+    (cond (eqb v 0) (changedOf s (alongOf tab (s .direction) y) 2) (refusedOf s 31))
+    (cond (eqb v 0) (refusedOf s 31) (pushedOf s (alongOf tab (s .direction) y) 2 (headIn s tab)))
+
+unfoldable pub repeatedOf : Spot → ℕ → ℕ → List ℕ → Move
+repeatedOf s v y tab = cond (eqb v 0) (changedOf s (alongOf tab (s .direction) y) 3) (poppedOf s (alongOf tab (s .direction) (s .b)))
+
+abbrev pub gateOf : List ℕ → ℕ → ℕ → ℕ
+gateOf tab q d = cond (eqb d 0) (lookIn tab (9216 + q)) (lookIn tab (9280 + q))
+
+unfoldable pub enteredOf : Spot → ℕ → ℕ → List ℕ → Move
+enteredOf s q d tab =
+    cond (leb 64 (s .calls)) (refusedOf s 34)
+    (moving 0 d (gateOf tab q d) (alongOf tab d (gateOf tab q d)) (s .calls + 1) (moreOf (s .count)) (s .count) 4 (s .b))
+
+abbrev pub resumedOf : List ℕ → ℕ → ℕ → ℕ
+resumedOf tab l d = cond (eqb (lookIn tab (1024 + l)) 12) (otherOf d) d
+
+unfoldable pub returnedOf : Spot → List ℕ → Move
+returnedOf s tab =
+    cond (eqb (s .calls) 0) (refusedOf s 30)
+    (moving 0 (resumedOf tab (s .label) (s .direction)) (s .label) (alongOf tab (resumedOf tab (s .label) (s .direction)) (s .label)) (s .calls - 1)
+    (fewerOf (s .count)) (fewerOf (s .count)) 0 0)
+
+-- the record met is of kind k, and its expression holds v
+unfoldable pub testedOf : Spot → ℕ → ℕ → List ℕ → Move
+testedOf s k v tab =
+    cond (leb 2 v) (refusedOf s v)
+    (cond (eqb k 5) (cond (eqb (s .direction) 0) (chosenOf s v tab) (closedOf s v tab))
+    (cond (eqb k 7) (cond (eqb (s .direction) 0) (closedOf s v tab) (chosenOf s v tab))
+    (cond (eqb k 8) (cond (eqb (s .direction) 0) (openedOf s v (s .b) tab) (repeatedOf s v (tailIn s tab) tab))
+    (cond (eqb (s .direction) 0) (repeatedOf s v (middleIn s tab) tab) (openedOf s v (middleIn s tab) tab)))))
+
+abbrev pub assignedOf : Spot → ℕ → List ℕ → Move
+assignedOf s n tab = cond (eqb n 0) (keptOf s (alongOf tab (s .direction) (s .b))) (refusedOf s n)
+
+-- the move, and the store after it
+pub record Ruled : Type 0 where
+  pub move : Move
+  pub store : Store
+
+-- the move answered and the store left are these
+pub record Rules (x : Ruled) (m : Move) (σ : Store) : Type 0 where
+  pub made : m ≡ x .move
+  pub left : σ ≡ x .store
+
+abbrev pub ruled : Move → Store → Ruled
+ruled m σ = record { move = m; store = σ }
+
+abbrev pub afterSet : Spot → List ℕ → Store → Answer Store → Ruled
+afterSet s tab σ (ok σ′) = ruled (assignedOf s 0 tab) σ′
+afterSet s tab σ (no q) = ruled (assignedOf s (number q) tab) σ
+
+unfoldable pub ruleOf : List ℕ → List ℕ → List ℕ → Spot → Store → Ruled
+ruleOf f tab arr s σ =
+    cond (eqb (lookIn tab (1024 + s .b)) 4) (afterSet s tab σ (setAt f (lookIn tab (s .b)) (s .direction) arr σ))
+    (cond (eqb (lookIn tab (1024 + s .b)) 13) (ruled (keptOf s (alongOf tab (s .direction) (s .b))) σ)
+    (cond (eqb (lookIn tab (1024 + s .b)) 11) (ruled (enteredOf s (word f (lookIn tab (s .b) + 4)) (s .direction) tab) σ)
+    (cond (eqb (lookIn tab (1024 + s .b)) 12) (ruled (enteredOf s (word f (lookIn tab (s .b) + 4)) (otherOf (s .direction)) tab) σ)
+    (cond (leb (lookIn tab (1024 + s .b)) 3) (ruled (returnedOf s tab) σ)
+    (ruled (testedOf s (lookIn tab (1024 + s .b)) (truthOf (worthAt arr σ (parse 16 f (lookIn tab (s .b) + 4)))) tab) σ)))))

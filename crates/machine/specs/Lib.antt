@@ -1,0 +1,6 @@
+-- The definitions of `machine`.
+pub mod Sets
+pub mod Decide
+pub mod Walk
+pub mod Answers
+pub mod Whole
