@@ -13,7 +13,8 @@ use crate::rng::Rng;
 use crate::stream::{Line, Script};
 use crate::vectors::from_hex;
 use crate::walk_cases::{
-    all_frames_tree, calling_places, calling_tree, refused_files, small_program,
+    all_frames_tree, calling_places, calling_tree, plain_places, plain_tree, refused_files,
+    small_program,
 };
 
 /// A program with a place that fits and a store of its length.
@@ -71,8 +72,11 @@ pub fn all() -> String {
     let [_, in_loop, deep, _] = bases();
     every_byte(&mut script, &in_loop, &[1, 2, 4, 8, 16, 32, 64, 128, 255]);
     every_byte(&mut script, &deep, &[1, 4, 255]);
-    misses_saved(&mut script, &deep);
-    misses_read(&mut script, &deep);
+    let plain = plain_places().pop().expect("the last of them");
+    for base in [deep, Base::new(&plain_tree(), plain, &[2])] {
+        misses_saved(&mut script, &base);
+        misses_read(&mut script, &base);
+    }
     sixty_five_calls(&mut script);
     refused_programs(&mut script, &in_loop);
     all_frames(&mut script);

@@ -498,27 +498,64 @@ pub fn calling_places() -> Vec<Place> {
     ]
 }
 
+/// 2 CALL 1, 3 UNCALL 2, 4 CALL 1, 5 END; 6 BEGIN, 7 CALL 2, 8 UNCALL 1, 9 SKIP, 10 END;
+/// 11 BEGIN, 12 SKIP, 13 CALL 2, 14 END: no construct hides a call in the wrong procedure.
+pub fn plain_tree() -> Tree {
+    let main = vec![Node::Call(1), Node::Uncall(2), Node::Call(1)];
+    let one = vec![Node::Call(2), Node::Uncall(1), Node::Skip];
+    tree(1, &[], vec![main, one, vec![Node::Skip, Node::Call(2)]])
+}
+
+/// Places of `plain_tree`.
+pub fn plain_places() -> Vec<Place> {
+    let place = |direction, a, b, calls: &[u16]| Place {
+        direction,
+        a,
+        b,
+        frames: calls
+            .iter()
+            .map(|&label| Frame::new(Frame::CALL, label))
+            .collect(),
+    };
+    let (down, up) = BOTH.into();
+    vec![
+        place(down, 2, 3, &[]),
+        place(down, 6, 7, &[2]),
+        place(up, 14, 13, &[3]),
+        place(up, 12, 11, &[7, 4]),
+        place(down, 9, 10, &[8, 8, 2]),
+        place(down, 11, 12, &[13, 7, 8, 4]),
+    ]
+}
+
 /// Each fitting place, then each near miss of it, with a step forward and one back.
 fn misses(script: &mut Script) {
-    let file = calling_tree().encode();
+    misses_of(script, &calling_tree(), &calling_places());
+    misses_of(script, &plain_tree(), &plain_places());
+    script.program(&calling_tree().encode());
+    for miss in large_counts(&calling_places()[2]) {
+        script.place(&miss);
+        script.all(&[Line::Step, Line::Back]);
+    }
+}
+
+fn misses_of(script: &mut Script, tree: &Tree, places: &[Place]) {
+    let file = tree.encode();
     let program = check(&file).expect("sound");
+    let records = program.records.len() as u16;
     script.program(&file);
-    for (at, place) in calling_places().iter().enumerate() {
+    for (at, place) in places.iter().enumerate() {
         assert!(place.fits(&program), "{place:?}");
         script.store(&[at as i32 % 3 - 1]);
         script.place(&LentPlace::of(place));
         script.all(&[Line::Step, Line::Back, Line::Back, Line::Step]);
-        for (number, miss) in near_misses(place, 22).iter().enumerate() {
+        for (number, miss) in near_misses(place, records).iter().enumerate() {
             script.place(miss);
             script.all(&[Line::Step, Line::Back]);
             if number % 5 == 0 {
                 script.all(&[Line::Run(0), Line::RunBack(2)]);
             }
         }
-    }
-    for miss in large_counts(&calling_places()[2]) {
-        script.place(&miss);
-        script.all(&[Line::Step, Line::Back]);
     }
 }
 
