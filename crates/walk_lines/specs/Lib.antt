@@ -1,0 +1,2 @@
+-- The definitions of `walk_lines`.
+pub mod Zeros
