@@ -1,6 +1,7 @@
 -- For each public function of the crate, and those of its modules that others there call: any two outcomes that its contract permits are equal.
-use mathlib.Core.Path.{_≡_, sym, _∙_}
+use mathlib.Core.Path.{_≡_, sym, ap, _∙_}
 use contract.Lifetimes.{Lfts}
+use Rattle.program.specs.Check.{checkOf, given}
 use Rattle.program.proofs.walk.stride.Reads as stride
 use Rattle.program.proofs.walk.kind_at.Reads as kind-at
 use Rattle.program.proofs.walk.next_at.Reads as next-at
@@ -34,3 +35,7 @@ module _ (κs : Lfts 1) where
 
   pub check-determined : (a : _) (r r′ : _) (s s′ : _) → check.Post κs a r s → check.Post κs a r′ s′ → r ≡ r′
   check-determined a r r′ s s′ p q = p ∙ sym q
+
+  -- The answer is the document's: number and record, or the counts.
+  pub check-given : (a : _) (r : _) (s : _) → check.Post κs a r s → given r ≡ given (checkOf (a .0 .now))
+  check-given a r s p = ap given p
