@@ -10,7 +10,7 @@ use lib.ListN.{length, getD, drop}
 use native.Mathlib.Omega.{arith}
 use Rattle.codes.specs.Codes.{word16, bytes16}
 use Rattle.codes.proofs.Rows.{short-back}
-use Rattle.program.specs.Records.{Record, names, begin, end, set, if, else, fi, from, loop, until, call, uncall, skip, kind, body, encodeRecord, bytesOf, Formed, InSize, FineFrom, isBegin}
+use Rattle.program.specs.Records.{Record, names, begin, end, assign, if, else, fi, from, loop, until, call, uncall, skip, kind, body, encodeRecord, bytesOf, Formed, InSize, FineFrom, isBegin}
 use Rattle.program.specs.Trees.{Tree, recordsOf}
 use Rattle.program.specs.Says.{Accepts}
 use Rattle.program.specs.Walk.{offsets}
@@ -35,7 +35,7 @@ unfolding InSize
 in-size k b (names v ls) h = h .0
 in-size k b begin h = h .0
 in-size k b end h = h
-in-size k b (set o t e) h = h
+in-size k b (assign o t e) h = h
 in-size k b (if e) h = h
 in-size k b else h = h
 in-size k b (fi e) h = h

@@ -11,7 +11,7 @@ use native.Mathlib.Nat.{zero-add}
 use borrow.Author.Tests.{eq-eqb, ne-eqb, lt-ltb, ltb-true, ltb-false, le-leb, lt-leb}
 use Rattle.place.specs.Places.{Dir, down, up, opp, Frame, called, frameKind, frameLabel}
 use Rattle.place.specs.Slots.{dirNumber, held}
-use Rattle.program.specs.Records.{Record, names, begin, end, set, if, else, fi, from, loop, until, call, uncall, skip, kind, begins, isBegin, InSize, FineFrom, there}
+use Rattle.program.specs.Records.{Record, names, begin, end, assign, if, else, fi, from, loop, until, call, uncall, skip, kind, begins, isBegin, InSize, FineFrom, there}
 use Rattle.program.specs.Trees.{Stmt, setS, skipS, callS, uncallS, ifS, fromS, Block, one, _then_, Tree, procedures, recordsS, recordsB, recordsP, recordsOf}
 use Rattle.program.specs.Says.{Accepts, word, thereIn}
 use Rattle.program.specs.Reading.{recordAs}
@@ -53,7 +53,7 @@ unfolding InSize kind
 one-more k b (names v ls) h s = omega arith
 one-more k b begin h s = omega arith
 one-more k b end h s = omega arith
-one-more k b (set o t e) h s = omega arith
+one-more k b (assign o t e) h s = omega arith
 one-more k b (if e) h s = omega arith
 one-more k b else h s = omega arith
 one-more k b (fi e) h s = omega arith

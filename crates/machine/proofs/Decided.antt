@@ -15,7 +15,7 @@ use Rattle.expr.specs.Bytes.{parse}
 use Rattle.expr.specs.Answers.{arraysOf, worthAt}
 use Rattle.place.specs.Places.{Dir, down, up, opp, Frame, inThen, inElse, inDo, inLoop, called, frameKind, frameLabel}
 use Rattle.place.specs.Slots.{dirNumber, held}
-use Rattle.program.specs.Records.{Target, Record, names, begin, end, set, if, else, fi, from, loop, until, call, uncall, skip, kind, there}
+use Rattle.program.specs.Records.{Target, Record, names, begin, end, assign, if, else, fi, from, loop, until, call, uncall, skip, kind, there}
 use Rattle.program.specs.Trees.{Tree, procedures, recordsOf}
 use Rattle.program.specs.Says.{Accepts, word, thereIn}
 use Rattle.program.specs.Reading.{recordAs}

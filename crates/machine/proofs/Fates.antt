@@ -10,7 +10,7 @@ use Rattle.expr.specs.Tree.{Expr}
 use Rattle.expr.specs.Bytes.{parse}
 use Rattle.place.specs.Places.{Dir, down, up, opp, Frame, inThen, inElse, inDo, inLoop, frameKind, frameLabel}
 use Rattle.place.specs.Slots.{dirNumber, held}
-use Rattle.program.specs.Records.{Target, set, if, fi, from, until, skip, kind}
+use Rattle.program.specs.Records.{Target, assign, if, fi, from, until, skip, kind}
 use Rattle.program.specs.Trees.{Tree, recordsOf}
 use Rattle.program.specs.Says.{Accepts}
 use Rattle.program.specs.Reading.{recordAs}

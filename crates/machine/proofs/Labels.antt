@@ -8,7 +8,7 @@ use lib.Dec.{ltb}
 use native.Mathlib.Omega.{arith}
 use borrow.Author.Tests.{lt-ltb, ltb-false, ltb-true}
 use Rattle.place.specs.Slots.{dirNumber}
-use Rattle.program.specs.Records.{Record, names, begin, end, set, if, else, fi, from, loop, until, call, uncall, skip, kind, body, encodeRecord, bytesOf, Formed, InSize, FineFrom}
+use Rattle.program.specs.Records.{Record, names, begin, end, assign, if, else, fi, from, loop, until, call, uncall, skip, kind, body, encodeRecord, bytesOf, Formed, InSize, FineFrom}
 use Rattle.program.specs.Trees.{Tree, recordsOf}
 use Rattle.program.specs.Says.{Accepts, word}
 use Rattle.program.specs.Reading.{recordAs}
@@ -44,7 +44,7 @@ unfolding InSize
 in-size k b (names v ls) h = h .0
 in-size k b begin h = h .0
 in-size k b end h = h
-in-size k b (set o t e) h = h
+in-size k b (assign o t e) h = h
 in-size k b (if e) h = h
 in-size k b else h = h
 in-size k b (fi e) h = h

@@ -13,7 +13,7 @@ use Rattle.expr.specs.Bytes.{parse}
 use Rattle.expr.specs.Answers.{arraysOf, worthAt}
 use Rattle.expr.proofs.Agree.{eval-agree}
 use Rattle.place.specs.Slots.{dirNumber}
-use Rattle.program.specs.Records.{Target, cell, entry, Record, set}
+use Rattle.program.specs.Records.{Target, cell, entry, Record, assign}
 use Rattle.program.specs.Trees.{Tree}
 use Rattle.program.specs.Says.{word}
 use Rattle.program.specs.Reading.{recordAs}
@@ -58,8 +58,8 @@ module _ (t : Tree) (arr : List ℕ) (G : Agrees t arr) (σ : Store) where
         λ j. bind (bind (answered (worth-is i j)) (λ v. entry-is a v j)) (λ c. set-cell-is c o d e j)
 
     set-as : (b : Bool) (o : ℕ) (x : Target) (e : Expr)
-        → set (getD f (at + 4) 0) (cond b (cell (word f (at + 6))) (entry (word f (at + 6)) (parse 16 f (at + 8) .tree))) (parse 16 f (cond b (at + 8) (parse 16 f (at + 8) .next)) .tree)
-        ≡ set o x e
+        → assign (getD f (at + 4) 0) (cond b (cell (word f (at + 6))) (entry (word f (at + 6)) (parse 16 f (at + 8) .tree))) (parse 16 f (cond b (at + 8) (parse 16 f (at + 8) .next)) .tree)
+        ≡ assign o x e
         → cond b (setTo (word f (at + 6)) (operatorAt (getD f (at + 4) 0) (dirNumber d)) σ (worthAt arr σ (parse 16 f (at + 8))))
         (setEntry f (at + 8) (word f (at + 6)) (operatorAt (getD f (at + 4) 0) (dirNumber d)) arr σ) ≡ assigned t o x e d σ
     unfolding setEntry
@@ -74,6 +74,6 @@ module _ (t : Tree) (arr : List ℕ) (G : Agrees t arr) (σ : Store) where
         let ee : parse 16 f (parse 16 f (at + 8) .next) .tree ≡ e = cc in
         array-is _ _ _ _ ∙ (λ j. assigned t (eo j) (ex j) (ee j) d σ)
 
-    pub set-is : (o : ℕ) (x : Target) (e : Expr) → recordAs 4 f at ≡ set o x e → setAt f at (dirNumber d) arr σ ≡ assigned t o x e d σ
+    pub set-is : (o : ℕ) (x : Target) (e : Expr) → recordAs 4 f at ≡ assign o x e → setAt f at (dirNumber d) arr σ ≡ assigned t o x e d σ
     unfolding setAt recordAs
     set-is o x e q = set-as (eqb (getD f (at + 5) 0) 0) o x e q

@@ -11,7 +11,7 @@ use native.Mathlib.Omega.{arith}
 use borrow.Author.Tests.{ltb-true, ltb-false, eq-eqb, eqb-true}
 use Rattle.values.specs.Values.{isTrue}
 use Rattle.expr.specs.Tree.{Expr, Fault, byZero, badIndex as outside, Worth, value, stop, eval}
-use Rattle.program.specs.Records.{Target, cell, entry, Record, names, begin, end, set, if, else, fi, from, loop, until, call, uncall, skip}
+use Rattle.program.specs.Records.{Target, cell, entry, Record, names, begin, end, assign, if, else, fi, from, loop, until, call, uncall, skip}
 use Rattle.program.specs.Trees.{Tree}
 use Rattle.moves.specs.Edges.{Frame, inThen, inElse, inDo, inLoop, called}
 use Rattle.moves.specs.Places.{Dir, down, up, calls}
@@ -68,7 +68,7 @@ module _ (τ : Tree) (σ : Store) where
 
   -- ---- a SET's evaluations in their order
   abbrev SetStops : ℕ → Target → Expr → Reason → Type 0
-  SetStops o x e r = (f : Fault) × Faults τ σ (set o x e) f × (reasonOf f ≡ r)
+  SetStops o x e r = (f : Fault) × Faults τ σ (assign o x e) f × (reasonOf f ≡ r)
 
   missed : (a : ℕ) (v : ℤ) (r : Reason) → entryAt τ a v ≡ no r → Misses τ a v × (badIndex ≡ r)
   missed a (pos i) r h = go′ (ltb i (getD (τ .lengths) a 0)) refl h
@@ -126,7 +126,7 @@ module _ (τ : Tree) (σ : Store) where
       go′ (value v) q = given v q (entryAt τ a v) refl
       go′ (stop f) q = (f, in-index q, no-no (rw (evaluated-stop i f q) at h))
 
-  set-faults : (o : ℕ) (x : Target) (e : Expr) (d : Dir) (f : Fault) → Faults τ σ (set o x e) f → assigned τ o x e d σ ≡ no (reasonOf f)
+  set-faults : (o : ℕ) (x : Target) (e : Expr) (d : Dir) (f : Fault) → Faults τ σ (assign o x e) f → assigned τ o x e d σ ≡ no (reasonOf f)
   unfolding assigned cellOf bind
   set-faults o (cell x) e d f (in-set q) = rw (evaluated-stop e f q)
   set-faults o (entry a i) e d f (in-index q) = rw (evaluated-stop i f q)
@@ -215,7 +215,7 @@ module _ (τ : Tree) (σ : Store) (h : ℕ) (fs : List Frame) where
   refuses-meets begin up r s n k = subst⁻¹ (Meets τ σ h fs begin up) (k .1) (begin-up (ap calls (k .0)))
   refuses-meets end down r s n k = subst⁻¹ (Meets τ σ h fs end down) (k .1) (end-down (ap calls (k .0)))
   refuses-meets end up r s n k = absurd k
-  refuses-meets (set o x e) d r s n k = let z = set-no τ σ o x e d r k in fault-meets (set o x e) d (z .0) r (z .1) (z .2)
+  refuses-meets (assign o x e) d r s n k = let z = set-no τ σ o x e d r k in fault-meets (assign o x e) d (z .0) r (z .1) (z .2)
   refuses-meets (if e) down r s n k = plain-meets (if e) down e r (λ f q. in-if q) k
   refuses-meets (if e) up r s n k = closes-meets (if e) up e r if-up (λ f q. in-if q) s k
   refuses-meets else d r s n k = absurd k

@@ -2,7 +2,7 @@
 use Prim.Native.Nat.{ℕ}
 use mathlib.Core.List.{List}
 use Rattle.expr.specs.Tree.{Expr}
-use Rattle.program.specs.Records.{Target, Record, names, begin, end, set, if, else, fi, from, loop, until, call, uncall, skip}
+use Rattle.program.specs.Records.{Target, Record, names, begin, end, assign, if, else, fi, from, loop, until, call, uncall, skip}
 use Rattle.moves.specs.Edges.{Frame}
 use Rattle.moves.specs.Places.{Dir, down, up, opp}
 
@@ -34,7 +34,7 @@ abbrev pub forget : Rec → Record
 forget (nameL v ls) = names v ls
 forget (beginL q) = begin
 forget (endL q) = end
-forget (setL o x e) = set o x e
+forget (setL o x e) = assign o x e
 forget skipL = skip
 forget (ifL c) = if (c .e₁)
 forget (elseL c) = else

@@ -7,7 +7,7 @@ use lib.ListN.{getD}
 use lib.IntN.{ℤ, pos, negsuc}
 use Rattle.values.specs.Values.{isTrue}
 use Rattle.expr.specs.Tree.{Expr, Fault, byZero, badIndex as outside, value, stop, eval}
-use Rattle.program.specs.Records.{cell, entry, Record, begin, end, set, if, fi, from, until, call, uncall}
+use Rattle.program.specs.Records.{cell, entry, Record, begin, end, assign, if, fi, from, until, call, uncall}
 use Rattle.program.specs.Trees.{Tree}
 use Rattle.moves.specs.Labels.{at, head}
 use Rattle.moves.specs.Edges.{Frame, inThen, inElse, inLoop}
@@ -35,11 +35,11 @@ pub data Faults (t : Tree) (σ : Store) : Record → Fault → Type 0 where
   in-fi : {e : Expr} {f : Fault} → eval (layout t) σ e ≡ stop f → Faults t σ (fi e) f
   in-from : {e : Expr} {f : Fault} → eval (layout t) σ e ≡ stop f → Faults t σ (from e) f
   in-until : {e : Expr} {f : Fault} → eval (layout t) σ e ≡ stop f → Faults t σ (until e) f
-  in-set : {o x : ℕ} {e : Expr} {f : Fault} → eval (layout t) σ e ≡ stop f → Faults t σ (set o (cell x) e) f
-  in-index : {o a : ℕ} {i e : Expr} {f : Fault} → eval (layout t) σ i ≡ stop f → Faults t σ (set o (entry a i) e) f
-  index : {o a : ℕ} {i e : Expr} {v : ℤ} → eval (layout t) σ i ≡ value v → Misses t a v → Faults t σ (set o (entry a i) e) outside
+  in-set : {o x : ℕ} {e : Expr} {f : Fault} → eval (layout t) σ e ≡ stop f → Faults t σ (assign o (cell x) e) f
+  in-index : {o a : ℕ} {i e : Expr} {f : Fault} → eval (layout t) σ i ≡ stop f → Faults t σ (assign o (entry a i) e) f
+  index : {o a : ℕ} {i e : Expr} {v : ℤ} → eval (layout t) σ i ≡ value v → Misses t a v → Faults t σ (assign o (entry a i) e) outside
   in-entry : {o a : ℕ} {i e : Expr} {v : ℤ} {f : Fault} → eval (layout t) σ i ≡ value v → (Misses t a v → ⊥)
-      → eval (layout t) σ e ≡ stop f → Faults t σ (set o (entry a i) e) f
+      → eval (layout t) σ e ≡ stop f → Faults t σ (assign o (entry a i) e) f
 
 -- The record closes, or opens, in this direction, by this expression.
 pub data Closes : Record → Dir → Expr → Type 0 where

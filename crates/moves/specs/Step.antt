@@ -4,7 +4,7 @@ use mathlib.Core.List.{List, [], _∷_}
 use mathlib.Core.Bool.{Bool, true, false, not, cond, _&&_}
 use lib.Dec.{ltb, eqb}
 use Rattle.expr.specs.Tree.{Expr}
-use Rattle.program.specs.Records.{Target, Record, names, begin, end, set, if, else, fi, from, loop, until, call, uncall, skip, kind}
+use Rattle.program.specs.Records.{Target, Record, names, begin, end, assign, if, else, fi, from, loop, until, call, uncall, skip, kind}
 use Rattle.program.specs.Trees.{Tree}
 use Rattle.moves.specs.Labels.{at, head}
 use Rattle.moves.specs.Edges.{Frame, inThen, inElse, inDo, inLoop, called, frameKind, frameLabel, Edge, edges}
@@ -29,7 +29,7 @@ act begin h down = nothing
 act begin h up = returns
 act end h down = returns
 act end h up = nothing
-act (set o x e) h d = assigns o x e
+act (assign o x e) h d = assigns o x e
 act (if e) h down = chooses e h
 act (if e) h up = closes e
 act else h d = nothing

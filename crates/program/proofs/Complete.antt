@@ -10,7 +10,7 @@ use Rattle.codes.specs.Codes.{bytes16}
 use Rattle.codes.proofs.Rows.{short-back, head-of, byte-of}
 use Rattle.expr.specs.Tree.{Expr, encode}
 use Rattle.expr.proofs.Format.{complete}
-use Rattle.program.specs.Records.{Record, Target, cell, entry, names, begin, end, set, if, else, fi, from, loop, until, call, uncall, skip, kind, body, Formed, Plain}
+use Rattle.program.specs.Records.{Record, Target, cell, entry, names, begin, end, assign, if, else, fi, from, loop, until, call, uncall, skip, kind, body, Formed, Plain}
 use Rattle.program.specs.Says.{word}
 use Rattle.program.specs.Reading.{stop, exprAt, testBody, namesBody, setBody, formedAs, recordAs, shortsAt, targetAt, valueAt}
 use Rattle.program.proofs.Bytes.{front-rest, after, length-words, shorts-back}
@@ -58,8 +58,8 @@ module _ (f : List ℕ) where
           ),
         )
 
-    complete-set : (o : ℕ) (t : Target) (e : Expr) → Formed (set o t e) → drop (at + 4) f ≡ body (set o t e) ++ x → word f at ≡ 4 + length (body (set o t e))
-        → (setBody f at ≡ true) × (set (getD f (at + 4) 0) (targetAt f at) (exprAt f (valueAt f at) .tree) ≡ set o t e)
+    complete-set : (o : ℕ) (t : Target) (e : Expr) → Formed (assign o t e) → drop (at + 4) f ≡ body (assign o t e) ++ x → word f at ≡ 4 + length (body (assign o t e))
+        → (setBody f at ≡ true) × (assign (getD f (at + 4) 0) (targetAt f at) (exprAt f (valueAt f at) .tree) ≡ assign o t e)
     unfolding Formed body setBody
     complete-set o (cell n) e h D w =
         let z = complete-head o 0 n (encode e ++ x) (h .1 .0) D in
@@ -84,7 +84,7 @@ module _ (f : List ℕ) where
     complete-body (names v ls) h D w = complete-names v ls h D w
     complete-body begin h D w = (eq-eqb _ _ w, refl)
     complete-body end h D w = (eq-eqb _ _ w, refl)
-    complete-body (set o t e) h D w = complete-set o t e h D w
+    complete-body (assign o t e) h D w = complete-set o t e h D w
     complete-body (if e) h D w = let z = complete-test e h D w in (z .0, ap if (z .1))
     complete-body else h D w = (eq-eqb _ _ w, refl)
     complete-body (fi e) h D w = let z = complete-test e h D w in (z .0, ap fi (z .1))

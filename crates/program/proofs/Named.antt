@@ -9,7 +9,7 @@ use Rattle.codes.proofs.Rows.{byte-of, short-back}
 use Rattle.expr.specs.Tree.{Expr, encode, known, occurs, scalar, array}
 use Rattle.expr.specs.Bytes.{Stands, Got, whole}
 use Rattle.expr.proofs.Format.{got, whole-of}
-use Rattle.program.specs.Records.{cell, entry, Record, names, begin, end, set, if, else, fi, from, loop, until, call, uncall, skip, kind, body, encodeRecord, Plain, Formed, there, own}
+use Rattle.program.specs.Records.{cell, entry, Record, names, begin, end, assign, if, else, fi, from, loop, until, call, uncall, skip, kind, body, encodeRecord, Plain, Formed, there, own}
 use Rattle.program.specs.Says.{word, free}
 use Rattle.program.specs.Walk.{kindAt}
 use Rattle.program.specs.Reading.{tests, calls}
@@ -79,7 +79,7 @@ module _ (f : List ℕ) (at : ℕ) (y : List ℕ) where
   body-at r D = front-rest f at 4 _ D
 
   module _ (o x : ℕ) (e : Expr) where
-    module _ (D : drop at f ≡ encodeRecord (set o (cell x) e) ++ y) where
+    module _ (D : drop at f ≡ encodeRecord (assign o (cell x) e) ++ y) where
       cell-zero : getD f (at + 5) 0 ≡ 0
       unfolding encodeRecord body kind
       cell-zero = byte-of f at 5 _ D
@@ -92,7 +92,7 @@ module _ (f : List ℕ) (at : ℕ) (y : List ℕ) where
       unfolding encodeRecord body kind
       cell-rest = front-rest f at 8 _ D
 
-    module _ (i : Expr) (D : drop at f ≡ encodeRecord (set o (entry x i) e) ++ y) where
+    module _ (i : Expr) (D : drop at f ≡ encodeRecord (assign o (entry x i) e) ++ y) where
       entry-one : getD f (at + 5) 0 ≡ 1
       unfolding encodeRecord body kind
       entry-one = byte-of f at 5 _ D
@@ -111,9 +111,9 @@ module _ (f : List ℕ) (at : ℕ) (y : List ℕ) where
     there-at (names w ls) F s D = there-none f at 1 (kind-is f at _ y s D) v a p refl refl refl
     there-at begin F s D = there-none f at 2 (kind-is f at _ y s D) v a p refl refl refl
     there-at end F s D = there-none f at 3 (kind-is f at _ y s D) v a p refl refl refl
-    there-at (set o (cell x) e) F s D =
+    there-at (assign o (cell x) e) F s D =
         there-cell f at (kind-is f at _ y s D) x (cell-number o x e D (F .1 .0)) e (F .1 .1) y (cell-zero o x e D) (cell-rest o x e D) v a p
-    there-at (set o (entry x i) e) F s D =
+    there-at (assign o (entry x i) e) F s D =
         there-entry f at (kind-is f at _ y s D) x (entry-number o x e i D (F .1 .0 .0)) e (F .1 .1) y (entry-one o x e i D) i (F .1 .0 .1)
         (entry-rest o x e i D)
         v
@@ -134,9 +134,9 @@ module _ (f : List ℕ) (at : ℕ) (y : List ℕ) where
   free-at (names w ls) F s D = free-none f at 1 (kind-is f at _ y s D) refl
   free-at begin F s D = free-none f at 2 (kind-is f at _ y s D) refl
   free-at end F s D = free-none f at 3 (kind-is f at _ y s D) refl
-  free-at (set o (cell x) e) F s D =
+  free-at (assign o (cell x) e) F s D =
       free-cell f at (kind-is f at _ y s D) x (cell-number o x e D (F .1 .0)) e (F .1 .1) y (cell-zero o x e D) (cell-rest o x e D)
-  free-at (set o (entry x i) e) F s D =
+  free-at (assign o (entry x i) e) F s D =
       free-entry f at (kind-is f at _ y s D) x (entry-number o x e i D (F .1 .0 .0)) e (F .1 .1) y (entry-one o x e i D) i (F .1 .0 .1)
       (entry-rest o x e i D)
   free-at (if e) F s D = free-none f at 5 (kind-is f at _ y s D) refl

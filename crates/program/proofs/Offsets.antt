@@ -9,7 +9,7 @@ use native.Mathlib.Omega.{arith}
 use borrow.Author.Tests.{lt-ltb, le-ltb}
 use lib.ListN.{length, drop, getD, length-append, length-drop}
 use lib.Seq.{drop-cons}
-use Rattle.program.specs.Records.{Record, names, begin, end, set, if, else, fi, from, loop, until, call, uncall, skip, kind, body, encodeRecord, bytesOf}
+use Rattle.program.specs.Records.{Record, names, begin, end, assign, if, else, fi, from, loop, until, call, uncall, skip, kind, body, encodeRecord, bytesOf}
 use Rattle.program.specs.Says.{word}
 use Rattle.program.specs.Walk.{stride, kindAt, offsets, offsetsFrom, kindsAt}
 use Rattle.codes.proofs.Rows.{short-back}
@@ -51,7 +51,7 @@ unfolding kind
 kind-small (names v ls) = omega arith
 kind-small begin = omega arith
 kind-small end = omega arith
-kind-small (set o t e) = omega arith
+kind-small (assign o t e) = omega arith
 kind-small (if e) = omega arith
 kind-small else = omega arith
 kind-small (fi e) = omega arith

@@ -10,7 +10,7 @@ use borrow.Author.Tests.{ne-eqb}
 use lib.ListN.{length}
 use lib.Dec.{ltb}
 use Rattle.expr.specs.Tree.{Expr}
-use Rattle.program.specs.Records.{Record, names, begin, end, set, if, else, fi, from, loop, until, call, uncall, skip, kind}
+use Rattle.program.specs.Records.{Record, names, begin, end, assign, if, else, fi, from, loop, until, call, uncall, skip, kind}
 use Rattle.program.specs.Trees.{Stmt, setS, skipS, callS, uncallS, ifS, fromS, Block, one, _then_}
 use Rattle.program.specs.Order.{State, at, next, kinds, named, begun, ended, passed, opened, turned, closed}
 
@@ -130,7 +130,7 @@ abbrev pub grow : Part → Record → Part
 grow p (names v ls) = onNames v ls p
 grow p begin = onBegin p
 grow p end = onEnd p
-grow p (set o t e) = onPlain (setS o t e) p
+grow p (assign o t e) = onPlain (setS o t e) p
 grow p (if e) = onOpen false e p
 grow p else = onTurn false p
 grow p (fi e) = onClose false e p
@@ -252,7 +252,7 @@ unfolding next kind
 shape-grow p (names v ls) = shape-names v ls p
 shape-grow p begin = shape-begin p
 shape-grow p end = shape-end p
-shape-grow p (set o t e) = shape-plain (setS o t e) p
+shape-grow p (assign o t e) = shape-plain (setS o t e) p
 shape-grow p (if e) = shape-open false e p
 shape-grow p else = shape-turn false p
 shape-grow p (fi e) = shape-close false e p
@@ -277,7 +277,7 @@ pub grow-dead : (r : Record) → grow dead r ≡ dead
 grow-dead (names v ls) = refl
 grow-dead begin = refl
 grow-dead end = refl
-grow-dead (set o t e) = refl
+grow-dead (assign o t e) = refl
 grow-dead (if e) = refl
 grow-dead else = refl
 grow-dead (fi e) = refl

@@ -10,7 +10,7 @@ use native.Mathlib.Omega.{arith}
 use borrow.Author.Tests.{lt-ltb, le-ltb, leb-true, leb-false}
 use lib.Dec.{leb}
 use Rattle.expr.specs.Tree.{Expr}
-use Rattle.program.specs.Records.{Record, end, set, call, uncall, skip}
+use Rattle.program.specs.Records.{Record, end, assign, call, uncall, skip}
 use Rattle.program.specs.Trees.{Stmt, setS, skipS, callS, uncallS, ifS, fromS, Block, one, _then_, Tree, recordsS, recordsB, recordsP, recordsOf, procedures, openS, openB, openP}
 use Rattle.program.proofs.OrderParts.{opener, middle, closer, construct, Layer, first, second, Part, nothing, dead, between, within, frames, height, app, add, grow, reads, dies}
 
@@ -112,7 +112,7 @@ module _ (v : ℕ) (ls : List ℕ) (bs : List Block) where
     unfolding recordsS openS
 
     readS : (s : Stmt) → Reads (recordsS s) (openS s) (one s)
-    readS (setS o t e) = plain-reads (set o t e) (setS o t e) (λ a ly. refl)
+    readS (setS o t e) = plain-reads (assign o t e) (setS o t e) (λ a ly. refl)
     readS skipS = plain-reads skip skipS (λ a ly. refl)
     readS (callS q) = plain-reads (call q) (callS q) (λ a ly. refl)
     readS (uncallS q) = plain-reads (uncall q) (uncallS q) (λ a ly. refl)

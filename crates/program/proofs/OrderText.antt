@@ -8,7 +8,7 @@ use mathlib.Core.Bool.{Bool, true, false, cond}
 use lib.Dec.{ltb}
 use lib.IntN.{pos}
 use Rattle.expr.specs.Tree.{Expr, con}
-use Rattle.program.specs.Records.{Record, names, begin, end, set, if, else, fi, from, loop, until, call, uncall, skip}
+use Rattle.program.specs.Records.{Record, names, begin, end, assign, if, else, fi, from, loop, until, call, uncall, skip}
 use Rattle.program.specs.Trees.{Stmt, setS, skipS, callS, uncallS, ifS, fromS, Block, one, _then_, recordsS, recordsB, recordsP}
 use Rattle.program.specs.Order.{at}
 use Rattle.program.proofs.OrderParts.{opener, middle, closer, construct, Layer, first, second, Part, nothing, dead, between, within, height, app, add, onNames, onBegin, onEnd, onPlain, onOpen, onTurn, onClose, grow, grow-dead, reads, shape}
@@ -147,7 +147,7 @@ unfolding recordsS
 text-grow p (names v ls) = text-names v ls p
 text-grow p begin = text-begin p
 text-grow p end = text-end p
-text-grow p (set o t e) = text-plain (set o t e) (setS o t e) refl p
+text-grow p (assign o t e) = text-plain (assign o t e) (setS o t e) refl p
 text-grow p (if e) = text-open false e p
 text-grow p else = text-turn false p
 text-grow p (fi e) = text-close false e p

@@ -13,7 +13,7 @@ use Rattle.expr.specs.Tree.{encode}
 use Rattle.expr.specs.Bytes.{Stands}
 use Rattle.expr.proofs.Layer.{and-true}
 use Rattle.expr.proofs.Format.{sound}
-use Rattle.program.specs.Records.{Record, names, set, kind, body, words, Formed, Plain}
+use Rattle.program.specs.Records.{Record, names, assign, kind, body, words, Formed, Plain}
 use Rattle.program.specs.Says.{word}
 use Rattle.program.specs.Reading.{stop, exprAt, fills, shortsAt, targetAt, valueAt, indexed, recordAs, setBody, formedAs}
 use Rattle.program.proofs.Bytes.{Lies, lies-none, lies-of, lies-join, lies-byte, lies-short, lies-shorts, shorts-small, length-shorts}
@@ -72,7 +72,7 @@ module _ (f : List ℕ) (B : AllBytes f) where
 
     -- a SET of a scalar, and of an array at an index
     abbrev written : Record
-    written = set (getD f (at + 4) 0) (targetAt f at) (exprAt f (valueAt f at) .tree)
+    written = assign (getD f (at + 4) 0) (targetAt f at) (exprAt f (valueAt f at) .tree)
 
     sound-cell : getD f (at + 5) 0 ≡ 0 → getD f (at + 4) 0 < 3 → fills (exprAt f (valueAt f at)) (stop f at) ≡ true → Body f at 4 written
     unfolding Formed body kind

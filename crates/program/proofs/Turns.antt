@@ -6,7 +6,7 @@ use lib.IntN.{pos}
 use lib.ListN.{length, replicate}
 use Rattle.expr.specs.Tree.{con, var, bin, encode}
 use Rattle.expr.specs.Bytes.{parse, layer}
-use Rattle.program.specs.Records.{names, begin, end, set, cell, from, loop, until, skip, bytesOf, encodeRecord, body, kind, words, sum}
+use Rattle.program.specs.Records.{names, begin, end, assign, cell, from, loop, until, skip, bytesOf, encodeRecord, body, kind, words, sum}
 use Rattle.program.specs.Reading.{walkOf, walkFrom, wrongAt, cutAt, unknownAt, formedAs, setBody, sizedAs, namesFit, lengthsFit, shortsAt}
 use Rattle.program.specs.declared.Walked.{Walked}
 use Rattle.program.specs.declared.Walked.the-variants.{Fine, Faulty}
@@ -17,9 +17,9 @@ counting =
     bytesOf (
     names 2 []
     ∷ begin
-    ∷ set 0 (cell 1) (con (pos 3))
+    ∷ assign 0 (cell 1) (con (pos 3))
     ∷ from (bin 12 (var 0) (con (pos 0)))
-    ∷ set 0 (cell 0) (con (pos 1))
+    ∷ assign 0 (cell 0) (con (pos 1))
     ∷ loop
     ∷ skip
     ∷ until (bin 12 (var 0) (var 1))

@@ -6,7 +6,7 @@ use mathlib.Core.Bool.{Bool, true, cond, _&&_, _||_}
 use lib.ListN.{length, getD}
 use lib.Dec.{ltb, leb, eqb}
 use Rattle.expr.specs.Bytes.{Got, parse}
-use Rattle.program.specs.Records.{Target, cell, entry, Record, names, begin, end, set, if, else, fi, from, loop, until, call, uncall, skip, sum, isBegin}
+use Rattle.program.specs.Records.{Target, cell, entry, Record, names, begin, end, assign, if, else, fi, from, loop, until, call, uncall, skip, sum, isBegin}
 use Rattle.program.specs.Says.{word}
 use Rattle.program.specs.Walk.{stride, kindAt}
 use Rattle.program.specs.declared.Walked.{Walked}
@@ -45,7 +45,7 @@ recordAs k f at =
     cond (eqb k 1) (names (word f (at + 4)) (shortsAt f (at + 8) (word f (at + 6))))
     (cond (eqb k 2) begin
     (cond (eqb k 3) end
-    (cond (eqb k 4) (set (getD f (at + 4) 0) (targetAt f at) (exprAt f (valueAt f at) .tree))
+    (cond (eqb k 4) (assign (getD f (at + 4) 0) (targetAt f at) (exprAt f (valueAt f at) .tree))
     (cond (eqb k 5) (if (exprAt f (at + 4) .tree))
     (cond (eqb k 6) else
     (cond (eqb k 7) (fi (exprAt f (at + 4) .tree))

@@ -17,7 +17,7 @@ pub data Target : Type 0 where
 pub data Record : Type 0 where
   names : ℕ → List ℕ → Record
   begin end : Record
-  set : ℕ → Target → Expr → Record
+  assign : ℕ → Target → Expr → Record
   if : Expr → Record
   else : Record
   fi from : Expr → Record
@@ -30,7 +30,7 @@ unfoldable pub kind : Record → ℕ
 kind (names v ls) = 1
 kind begin = 2
 kind end = 3
-kind (set o t e) = 4
+kind (assign o t e) = 4
 kind (if e) = 5
 kind else = 6
 kind (fi e) = 7
@@ -53,7 +53,7 @@ unfoldable pub body : Record → List ℕ
 body (names v ls) = bytes16 v ++ (bytes16 (length ls) ++ words ls)
 body begin = []
 body end = []
-body (set o t e) = o ∷ encodeTarget t ++ encode e
+body (assign o t e) = o ∷ encodeTarget t ++ encode e
 body (if e) = encode e
 body else = []
 body (fi e) = encode e
@@ -91,7 +91,7 @@ unfoldable pub Formed : Record → Type 0
 Formed (names v ls) = (v < 2 ^ 16) × ((length ls < 2 ^ 16) × Shorts ls)
 Formed begin = Unit {0}
 Formed end = Unit {0}
-Formed (set o t e) = (o < 3) × (PlainTarget t × Plain e)
+Formed (assign o t e) = (o < 3) × (PlainTarget t × Plain e)
 Formed (if e) = Plain e
 Formed else = Unit {0}
 Formed (fi e) = Plain e
@@ -117,7 +117,7 @@ unfoldable pub InSize : ℕ → ℕ → Record → Type 0
 InSize k b (names v ls) = (k < 1024) × ((v ≤ 64) × ((length ls ≤ 16) × (Lengths ls × (v + sum ls ≤ 2048))))
 InSize k b begin = (k < 1024) × (b < 64)
 InSize k b end = k < 1024
-InSize k b (set o t e) = k < 1024
+InSize k b (assign o t e) = k < 1024
 InSize k b (if e) = k < 1024
 InSize k b else = k < 1024
 InSize k b (fi e) = k < 1024
@@ -150,7 +150,7 @@ unfoldable pub there : ℕ → ℕ → ℕ → Record → Bool
 there v a p (names w ls) = true
 there v a p begin = true
 there v a p end = true
-there v a p (set o t e) = thereTarget v a t && known v a e
+there v a p (assign o t e) = thereTarget v a t && known v a e
 there v a p (if e) = known v a e
 there v a p else = true
 there v a p (fi e) = known v a e
@@ -170,7 +170,7 @@ unfoldable pub own : Record → Bool
 own (names v ls) = false
 own begin = false
 own end = false
-own (set o t e) = ownTarget t e
+own (assign o t e) = ownTarget t e
 own (if e) = false
 own else = false
 own (fi e) = false

@@ -4,7 +4,7 @@ use mathlib.Core.List.{List, [], _∷_, _++_}
 use mathlib.Core.Path.{_≡_}
 use lib.ListN.{length}
 use Rattle.expr.specs.Tree.{Expr}
-use Rattle.program.specs.Records.{Target, Record, names, begin, end, set, if, else, fi, from, loop, until, call, uncall, skip, bytesOf, sum}
+use Rattle.program.specs.Records.{Target, Record, names, begin, end, assign, if, else, fi, from, loop, until, call, uncall, skip, bytesOf, sum}
 
 mutual
   -- "SET, CALL, UNCALL, SKIP, IF s ELSE s FI, FROM s LOOP s UNTIL"
@@ -28,7 +28,7 @@ pub record Tree : Type 0 where
 
 unfoldable mutual
   pub recordsS : Stmt → List Record
-  recordsS (setS o t e) = set o t e ∷ []
+  recordsS (setS o t e) = assign o t e ∷ []
   recordsS skipS = skip ∷ []
   recordsS (callS q) = call q ∷ []
   recordsS (uncallS q) = uncall q ∷ []

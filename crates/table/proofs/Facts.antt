@@ -4,7 +4,7 @@ use mathlib.Core.Path.{_≡_, refl, ap, sym, _∙_}
 use mathlib.Core.List.{List, [], _∷_, _++_}
 use lib.ListN.{length, getD, List·getD-eq-default}
 use native.Mathlib.Omega.{arith}
-use Rattle.program.specs.Records.{Record, names, begin, end, set, if, else, fi, from, loop, until, call, uncall, skip, kind, InSize, FineFrom, begins, isBegin}
+use Rattle.program.specs.Records.{Record, names, begin, end, assign, if, else, fi, from, loop, until, call, uncall, skip, kind, InSize, FineFrom, begins, isBegin}
 use Rattle.program.specs.Trees.{Stmt, setS, skipS, callS, uncallS, ifS, fromS, Block, one, _then_, Tree, procedures, recordsOf}
 use Rattle.program.specs.Says.{Accepts}
 use Rattle.program.proofs.CheckSays.{begins-tree}
@@ -102,7 +102,7 @@ unfolding InSize kind
 one-more k b (names v ls) h = (h .0, λ z. omega arith)
 one-more k b begin h = (h .0, λ z. omega (arith, h .1))
 one-more k b end h = (h, λ z. omega arith)
-one-more k b (set o t e) h = (h, λ z. omega arith)
+one-more k b (assign o t e) h = (h, λ z. omega arith)
 one-more k b (if e) h = (h, λ z. omega arith)
 one-more k b else h = (h, λ z. omega arith)
 one-more k b (fi e) h = (h, λ z. omega arith)
