@@ -16,3 +16,4 @@ pub mod Starts
 pub mod OneAnswer
 pub mod Determined
 pub mod Promises
+pub mod Walks

@@ -29,10 +29,10 @@ use Rattle.machine.specs.declared.Told.{Told}
 use Rattle.machine.specs.declared.Told.the-variants.{Done, Refused}
 use Rattle.machine.specs.Answers.{Before, program, size, place, Ready, StepSays, refused, stopped, arrived, toldOf, RunSays, ran, StartSays, started}
 
-no-way : {X : Type 0} → ⊥ → X
+pub no-way : {X : Type 0} → ⊥ → X
 no-way h = absurd h
 
-not-done : {X : Type 0} {n k : ℕ} → Done ≡ Refused n k → X
+pub not-done : {X : Type 0} {n k : ℕ} → Done ≡ Refused n k → X
 not-done e = no-way (let z : _≡_ {A = ℕ} 0 1 = cc in omega arith)
 
 module _ {f : List ℕ} (B : AllBytes f) where
@@ -53,12 +53,12 @@ module _ {f : List ℕ} (B : AllBytes f) where
     before-one (place {t} A e h) (size {t = t′} A′ h′) = no-way (h′ (e ∙ ap cells (accepts-unique f B t t′ A A′)))
     before-one (place A e h) (place A′ e′ h′) = (refl, refl)
 
-    before-ready : {m k : ℕ} {t : Tree} {p : Place} → Before f q σ m k → Ready f q σ t p → ⊥
+    pub before-ready : {m k : ℕ} {t : Tree} {p : Place} → Before f q σ m k → Ready f q σ t p → ⊥
     before-ready (program s) R = not-both (R .accepts) s
     before-ready {t = t} (size {t = t′} A h) R = h (R .sized ∙ ap cells (accepts-unique f B t t′ (R .accepts) A))
     before-ready {t = t} {p = p} (place {t = t′} A e h) R = h p (R .holds) (subst (λ x. Fits x p) (accepts-unique f B t t′ (R .accepts) A) (R .fits))
 
-    ready-one : {t t′ : Tree} {p p′ : Place} → Ready f q σ t p → Ready f q σ t′ p′ → (t ≡ t′) × (p ≡ p′)
+    pub ready-one : {t t′ : Tree} {p p′ : Place} → Ready f q σ t p → Ready f q σ t′ p′ → (t ≡ t′) × (p ≡ p′)
     ready-one {t} {t′} {p} {p′} R R′ = (accepts-unique f B t t′ (R .accepts) (R′ .accepts), held-injective p p′ (sym (R .holds) ∙ R′ .holds))
 
     pub run-one : (run : Tree → ℕ → Place → Store → runs.Ran) (n : ℕ) {a a′ : Told} {k k′ : ℕ} {x x′ : Held} {τ τ′ : Store}

@@ -60,7 +60,7 @@ module _ (s : Step) where
   fewer-is (suc n) zero r a (none {p = p} {σ = σ}) e = run-none n p σ r e
   fewer-is (suc n) (suc k) r a (then {p = p} {p₁ = p₁} {σ = σ} {σ₁ = σ₁} f h) e = run-first n p σ p₁ σ₁ f ∙ ap counted (fewer-is n k r (omega arith) h e)
 
-  is-steps : (n : ℕ) (p : Place) (σ : Store) (r : Ran) → IsRun s n p σ r → Steps s (r .steps) p σ (r .place) (r .store)
+  pub is-steps : (n : ℕ) (p : Place) (σ : Store) (r : Ran) → IsRun s n p σ r → Steps s (r .steps) p σ (r .place) (r .store)
   is-steps n p σ r (all h) = h
   is-steps n p σ r (fewer a h e) = h
 
@@ -151,17 +151,26 @@ module _ (τ : Tree) (w : Wf τ (prog τ)) where
       → let r = runBack τ n p σ in run τ (r .steps) (r .place) (r .store) ≡ record { steps = r .steps; place = p; store = σ; stop = made }
   runBack-undone n p σ f so = both-made n p σ (runBack τ n p σ) (run-is (stepBack τ) n p σ) (λ k p′ σ′ h. back-steps f so h)
 
-  -- The last place of a run fits, and its store has its size.
-  steps-fit : {n : ℕ} {p p′ : Place} {σ σ′ : Store} → Fits τ p → Sized τ σ → Steps (step τ) n p σ p′ σ′ → Fits τ p′ × Sized τ σ′
-  steps-fit f so none = (f, so)
-  steps-fit f so (then {p = p} {p₁ = p₁} {σ = σ} {σ₁ = σ₁} e r) = let u = back-undoes τ w p f σ so p₁ σ₁ e in steps-fit (u .0) (u .1) r
+  -- The last place of a run fits, and its store has its size; so has that of a run back.
+  module _ (s : Step) (keeps : (p : Place) → Fits τ p → (σ : Store) → Sized τ σ → (p′ : Place) (σ′ : Store) → s p σ ≡ ok (p′, σ′) → Fits τ p′ × Sized τ σ′) where
+    steps-fit : {n : ℕ} {p p′ : Place} {σ σ′ : Store} → Fits τ p → Sized τ σ → Steps s n p σ p′ σ′ → Fits τ p′ × Sized τ σ′
+    steps-fit f so none = (f, so)
+    steps-fit f so (then {p = p} {p₁ = p₁} {σ = σ} {σ₁ = σ₁} e r) = let u = keeps p f σ so p₁ σ₁ e in steps-fit (u .0) (u .1) r
+
+    runs-fit : (n : ℕ) (p : Place) (σ : Store) → Fits τ p → Sized τ σ → Fits τ (runBy s n p σ .place) × Sized τ (runBy s n p σ .store)
+    runs-fit n p σ f so = steps-fit f so (is-steps s n p σ _ (run-is s n p σ))
+
+  pub step-keeps : (p : Place) → Fits τ p → (σ : Store) → Sized τ σ → (p′ : Place) (σ′ : Store) → step τ p σ ≡ ok (p′, σ′) → Fits τ p′ × Sized τ σ′
+  step-keeps p f σ so p′ σ′ e = let u = back-undoes τ w p f σ so p′ σ′ e in (u .0, u .1)
+
+  pub back-keeps : (p : Place) → Fits τ p → (σ : Store) → Sized τ σ → (p′ : Place) (σ′ : Store) → stepBack τ p σ ≡ ok (p′, σ′) → Fits τ p′ × Sized τ σ′
+  back-keeps p f σ so p′ σ′ e = let u = forward-undoes τ w p f σ so p′ σ′ e in (u .0, u .1)
 
   pub run-fits : (n : ℕ) (p : Place) (σ : Store) → Fits τ p → Sized τ σ → Fits τ (run τ n p σ .place) × Sized τ (run τ n p σ .store)
-  run-fits n p σ f so = go′ (run τ n p σ) (run-is (step τ) n p σ)
-    where
-      go′ : (r : Ran) → IsRun (step τ) n p σ r → Fits τ (r .place) × Sized τ (r .store)
-      go′ r (all h) = steps-fit f so h
-      go′ r (fewer a h e) = steps-fit f so h
+  run-fits = runs-fit (step τ) step-keeps
+
+  pub run-back-fits : (n : ℕ) (p : Place) (σ : Store) → Fits τ p → Sized τ σ → Fits τ (runBack τ n p σ .place) × Sized τ (runBack τ n p σ .store)
+  run-back-fits = runs-fit (stepBack τ) back-keeps
 
   -- No two inputs to one output: runs from one start that come to one place and store began with one store, and made as many steps.
   pub injective : (d : Dir) (n m : ℕ) (σ σ′ : Store) → Sized τ σ → Sized τ σ′ → run τ n (start τ d) σ .place ≡ run τ m (start τ d) σ′ .place

@@ -87,6 +87,9 @@ module _ {f : List ℕ} {t : Tree} (accepts : Accepts f t) where
   pub run-fits : (n : ℕ) (p : Place) (σ : Store) → Fits t p → Sized t σ → Fits t (run t n p σ .place) × Sized t (run t n p σ .store)
   run-fits = runs.run-fits t (accepted-wf accepts)
 
+  pub run-back-fits : (n : ℕ) (p : Place) (σ : Store) → Fits t p → Sized t σ → Fits t (runBack t n p σ .place) × Sized t (runBack t n p σ .store)
+  run-back-fits = runs.run-back-fits t (accepted-wf accepts)
+
   -- No two inputs to one output.
   pub injective : (d : Dir) (n m : ℕ) (σ σ′ : Store) → Sized t σ → Sized t σ′ → run t n (start t d) σ .place ≡ run t m (start t d) σ′ .place
       → run t n (start t d) σ .store ≡ run t m (start t d) σ′ .store → (run t n (start t d) σ .steps ≡ run t m (start t d) σ′ .steps) × (σ ≡ σ′)
