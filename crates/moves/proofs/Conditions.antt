@@ -17,35 +17,36 @@ use Rattle.moves.specs.Edges.{Frame, inThen, inElse, inDo, inLoop, calle
 use Rattle.moves.specs.Places.{Dir, down, up, calls}
 use Rattle.moves.specs.Stores.{Reason, atEnd, wrongValue, zeroDivisor, badIndex, tooDeep, Answer, ok, no, bind, Store, layout, reasonOf, answered, evaluated, holds, entryAt, cellOf, assigned}
 use Rattle.moves.specs.Step.{Act, assigns, moves, chooses, closes, opens, tests, enters, returns, nothing, act, wanted, again}
-use Rattle.moves.specs.Reasons.{AtEnd, end-down, begin-up, TooDeep, at-call, at-uncall, Misses, Faults, in-if, in-fi, in-from, in-until, in-set, in-index, index, in-entry, Closes, fi-down, if-up, Opens, from-down, until-up, Wrong, then-false, else-true, outside-false, again-true, Meets}
+use Rattle.moves.specs.Reasons.{AtEnd, end-down, begin-up, TooDeep, at-call, at-uncall, Misses, Stops, Faults, in-if, in-fi, in-from, in-until, in-set, in-index, index, in-entry, Closes, fi-down, if-up, Opens, from-down, until-up, Wrong, then-false, else-true, outside-false, again-true, Meets}
 use Rattle.moves.proofs.Why.{ok-no, no-no, Refuses}
+use Rattle.moves.proofs.Stopping.{stopped, stops-eval}
 
 -- ---- an evaluation that stops, and one that gives a value
 module _ (τ : Tree) (σ : Store) where
-  abbrev Stops : Expr → Reason → Type 0
-  Stops e r = (f : Fault) × (eval (layout τ) σ e ≡ stop f) × (reasonOf f ≡ r)
+  abbrev Ends : Expr → Reason → Type 0
+  Ends e r = (f : Fault) × Stops τ σ e f × (reasonOf f ≡ r)
 
-  stops : (e : Expr) (r : Reason) → evaluated τ σ e ≡ no r → Stops e r
+  stops : (e : Expr) (r : Reason) → evaluated τ σ e ≡ no r → Ends e r
   unfolding evaluated
   stops e r h = go′ (eval (layout τ) σ e) refl h
     where
-      go′ : (w : Worth) → eval (layout τ) σ e ≡ w → answered w ≡ no r → Stops e r
+      go′ : (w : Worth) → eval (layout τ) σ e ≡ w → answered w ≡ no r → Ends e r
       go′ (value v) q h = ok-no v r h
-      go′ (stop f) q h = (f, q, no-no h)
+      go′ (stop f) q h = (f, stopped τ σ e f q, no-no h)
 
   pub evaluated-is : (e : Expr) (v : ℤ) → eval (layout τ) σ e ≡ value v → evaluated τ σ e ≡ ok v
   unfolding evaluated
   evaluated-is e v q = ap answered q
 
-  evaluated-stop : (e : Expr) (f : Fault) → eval (layout τ) σ e ≡ stop f → evaluated τ σ e ≡ no (reasonOf f)
+  evaluated-stop : (e : Expr) (f : Fault) → Stops τ σ e f → evaluated τ σ e ≡ no (reasonOf f)
   unfolding evaluated
-  evaluated-stop e f q = ap answered q
+  evaluated-stop e f q = ap answered (stops-eval τ σ q)
 
-  holds-no : (e : Expr) (r : Reason) → holds τ σ e ≡ no r → Stops e r
+  holds-no : (e : Expr) (r : Reason) → holds τ σ e ≡ no r → Ends e r
   unfolding holds bind
   holds-no e r h = go′ (evaluated τ σ e) refl h
     where
-      go′ : (a : Answer ℤ) → evaluated τ σ e ≡ a → bind a (λ v. ok (isTrue v)) ≡ no r → Stops e r
+      go′ : (a : Answer ℤ) → evaluated τ σ e ≡ a → bind a (λ v. ok (isTrue v)) ≡ no r → Ends e r
       go′ (ok v) q h = ok-no (isTrue v) r h
       go′ (no r′) q h = stops e r (q ∙ ap no (no-no h))
 
@@ -62,7 +63,7 @@ module _ (τ : Tree) (σ : Store) where
   unfolding holds bind
   holds-is e v q = rw (evaluated-is e v q)
 
-  holds-stop : (e : Expr) (f : Fault) → eval (layout τ) σ e ≡ stop f → holds τ σ e ≡ no (reasonOf f)
+  holds-stop : (e : Expr) (f : Fault) → Stops τ σ e f → holds τ σ e ≡ no (reasonOf f)
   unfolding holds bind
   holds-stop e f q = rw (evaluated-stop e f q)
 
@@ -103,11 +104,11 @@ module _ (τ : Tree) (σ : Store) where
       go′ (no r) h = absurd (f (missed a v r h .0))
 
   -- The expression comes last.
-  last-no : (e : Expr) (k : ℤ → Store) (r : Reason) → bind (evaluated τ σ e) (λ v. ok (k v)) ≡ no r → Stops e r
+  last-no : (e : Expr) (k : ℤ → Store) (r : Reason) → bind (evaluated τ σ e) (λ v. ok (k v)) ≡ no r → Ends e r
   unfolding bind
   last-no e k r h = go′ (evaluated τ σ e) refl h
     where
-      go′ : (a : Answer ℤ) → evaluated τ σ e ≡ a → bind a (λ v. ok (k v)) ≡ no r → Stops e r
+      go′ : (a : Answer ℤ) → evaluated τ σ e ≡ a → bind a (λ v. ok (k v)) ≡ no r → Ends e r
       go′ (ok v) q h = ok-no (k v) r h
       go′ (no r′) q h = stops e r (q ∙ ap no (no-no h))
 
@@ -124,7 +125,7 @@ module _ (τ : Tree) (σ : Store) where
 
       go′ : (w : Worth) → eval (layout τ) σ i ≡ w → SetStops o (entry a i) e r
       go′ (value v) q = given v q (entryAt τ a v) refl
-      go′ (stop f) q = (f, in-index q, no-no (rw (evaluated-stop i f q) at h))
+      go′ (stop f) q = let s = stopped τ σ i f q in (f, in-index s, no-no (rw (evaluated-stop i f s) at h))
 
   set-faults : (o : ℕ) (x : Target) (e : Expr) (d : Dir) (f : Fault) → Faults τ σ (assign o x e) f → assigned τ o x e d σ ≡ no (reasonOf f)
   unfolding assigned cellOf bind
@@ -186,7 +187,7 @@ module _ (τ : Tree) (σ : Store) (h : ℕ) (fs : List Frame) where
   fault-meets ρ d byZero r k e = subst (Meets τ σ h fs ρ d) e k
   fault-meets ρ d outside r k e = subst (Meets τ σ h fs ρ d) e k
 
-  closes-meets : (ρ : Record) (d : Dir) (e : Expr) (r : Reason) → Closes ρ d e → ((f : Fault) → eval (layout τ) σ e ≡ stop f → Faults τ σ ρ f) → Branch fs
+  closes-meets : (ρ : Record) (d : Dir) (e : Expr) (r : Reason) → Closes ρ d e → ((f : Fault) → Stops τ σ e f → Faults τ σ ρ f) → Branch fs
       → (holds τ σ e ≡ no r) ⊎ ((holds τ σ e ≡ ok (not (wanted fs))) × (r ≡ wrongValue)) → Meets τ σ h fs ρ d r
   closes-meets ρ d e r c k b (inl n) = let s = holds-no τ σ e r n in fault-meets ρ d (s .0) r (k (s .0) (s .1)) (s .2)
   closes-meets ρ d e r c k (l, F, inl q) (inr n) =
@@ -194,7 +195,7 @@ module _ (τ : Tree) (σ : Store) (h : ℕ) (fs : List Frame) where
   closes-meets ρ d e r c k (l, F, inr q) (inr n) =
       let s = holds-ok τ σ e (not (wanted fs)) (n .0) in subst⁻¹ (Meets τ σ h fs ρ d) (n .1) (else-true c q (s .1) (s .2 ∙ rw q))
 
-  opens-meets : (ρ : Record) (d : Dir) (e : Expr) (r : Reason) → Opens ρ d e → ((f : Fault) → eval (layout τ) σ e ≡ stop f → Faults τ σ ρ f)
+  opens-meets : (ρ : Record) (d : Dir) (e : Expr) (r : Reason) → Opens ρ d e → ((f : Fault) → Stops τ σ e f → Faults τ σ ρ f)
       → (holds τ σ e ≡ no r) ⊎ ((holds τ σ e ≡ ok (again h fs)) × (r ≡ wrongValue)) → Meets τ σ h fs ρ d r
   opens-meets ρ d e r c k (inl n) = let s = holds-no τ σ e r n in fault-meets ρ d (s .0) r (k (s .0) (s .1)) (s .2)
   opens-meets ρ d e r c k (inr n) = subst⁻¹ (Meets τ σ h fs ρ d) (n .1) (go′ (again h fs) refl)
@@ -205,7 +206,7 @@ module _ (τ : Tree) (σ : Store) (h : ℕ) (fs : List Frame) where
           let s = holds-ok τ σ e (again h fs) (n .0) in
           outside-false c (λ F i. let t = eq-eqb h h refl in let x : again h fs ≡ true = rw i t in let z : _≡_ {A = ℕ} 0 1 = cc in omega arith) (s .1) (s .2 ∙ q)
 
-  plain-meets : (ρ : Record) (d : Dir) (e : Expr) (r : Reason) → ((f : Fault) → eval (layout τ) σ e ≡ stop f → Faults τ σ ρ f) → holds τ σ e ≡ no r → Meets τ σ h fs ρ d r
+  plain-meets : (ρ : Record) (d : Dir) (e : Expr) (r : Reason) → ((f : Fault) → Stops τ σ e f → Faults τ σ ρ f) → holds τ σ e ≡ no r → Meets τ σ h fs ρ d r
   plain-meets ρ d e r k n = let s = holds-no τ σ e r n in fault-meets ρ d (s .0) r (k (s .0) (s .1)) (s .2)
 
   pub refuses-meets : (ρ : Record) (d : Dir) (r : Reason) → Shape (act ρ h d) fs → calls fs ≤ 64 → Refuses τ (act ρ h d) d fs σ r → Meets τ σ h fs ρ d r

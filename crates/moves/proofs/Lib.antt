@@ -14,6 +14,7 @@ pub mod Undo
 pub mod Walks
 pub mod Runs
 pub mod Why
+pub mod Stopping
 pub mod Conditions
 pub mod Refusals
 pub mod Assign

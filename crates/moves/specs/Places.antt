@@ -40,7 +40,7 @@ pub record Fits (t : Tree) (p : Place) : Type 0 where
   pub on : List·Memᴰ edge (edges t)
   pub from : near edge (p .d) ≡ p .a
   pub to : far edge (p .d) ≡ p .b
-  -- "the frames down to the first call are exactly the constructs that enclose the edge, likewise below each call"
+  -- "the frames down to the first call are exactly the constructs that enclose the edge (..), likewise below each call those that enclose the calling record"
   pub framed : p .frames ≡ edge .within ++ outside
   pub outer : Outer t (edge .proc) outside
   -- "and at most 64 frames are calls"

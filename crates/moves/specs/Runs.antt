@@ -6,7 +6,7 @@ use Rattle.moves.specs.Places.{Place}
 use Rattle.moves.specs.Stores.{Reason, number, Answer, ok, no, Store}
 use Rattle.moves.specs.Step.{step, stepBack}
 
--- Why a run stopped: all n steps were made, or a reason. "The reason, 0 where all n were made."
+-- Why a run stopped: all n steps were made, or a reason. "the reason, 0 where all n were made"
 pub data Stop : Type 0 where
   made : Stop
   because : Reason → Stop
@@ -15,14 +15,14 @@ abbrev pub stopNumber : Stop → ℕ
 stopNumber made = 0
 stopNumber (because r) = number r
 
--- "answers the steps made, the last place and the reason; the store is the one at that place"
+-- "answers the steps made, the last place and the reason ..; the store is the one at that place"
 pub record Ran : Type 0 where
   pub steps : ℕ
   pub place : Place
   pub store : Store
   pub stop : Stop
 
--- "A run of n steps stops at n or the first refusal", with steps that s makes.
+-- "A run of n steps .. stops at n or the first refusal", with steps that s makes.
 abbrev pub counted : Ran → Ran
 counted r = record { steps = suc (r .steps); place = r .place; store = r .store; stop = r .stop }
 

@@ -108,7 +108,7 @@ perform t (opens e h) p σ =
 -- "true leaves the loop and pops; false turns 2 into 3 and enters s2"
 perform t (tests e h) p σ =
     bind (holds t σ e) (λ v. ok (after t (p .b) (p .d) (cond v (pop (p .frames)) (inLoop h ∷ pop (p .frames))), σ))
--- "CALL enters the procedure: a becomes its BEGIN going down, its END going up. It pushes 4." 34: "a 65th call"
+-- "CALL enters the procedure in direction d, UNCALL in the opposite one: a becomes its BEGIN going down, its END going up. It pushes 4." 34: "a 65th call"
 perform t (enters q d) p σ = cond (ltb (calls (p .frames)) 64) (ok (after t (gate t q d) d (called (p .b) ∷ p .frames), σ)) (no tooDeep)
 -- "END down and BEGIN up return: pop the call"
 perform t returns p σ = returned t (p .d) (p .frames) σ

@@ -31,7 +31,7 @@ encodeCells (z ∷ zs) = cellBytes z ++ encodeCells zs
 abbrev pub encodeStore : List ℤ → List ℕ
 encodeStore zs = bytes16 (4 + 4 * length zs) ++ bytes16 33 ++ encodeCells zs
 
--- "One PLACE record, then one STORE record, nothing after."
+-- "One PLACE record (..), then one STORE record (..), nothing after."
 abbrev pub encode : Place → List ℤ → List ℕ
 encode p zs = encodePlace p ++ encodeStore zs
 
