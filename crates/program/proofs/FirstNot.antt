@@ -7,7 +7,7 @@ use native.Mathlib.Numerals.{add-one}
 use native.Mathlib.Omega.{arith}
 use lib.ListN.{length}
 use borrow.Author.Tests.{lt-ltb, le-ltb}
-use Rattle.program.specs.Walk.{stride, offsetsFrom, offsets}
+use Rattle.records.specs.Walk.{stride, offsetsFrom, offsets}
 use Rattle.program.specs.Names.{firstFrom, firstNot}
 use Rattle.program.specs.declared.names.First.{First}
 use Rattle.program.specs.declared.names.First.the-variants.{Nowhere, At}

@@ -12,9 +12,9 @@ use Rattle.expr.specs.Bytes.{whole}
 use Rattle.expr.specs.Answers.{knownOf, seenOf}
 use Rattle.expr.specs.declared.Known.{Known}
 use Rattle.expr.specs.declared.Seen.{Seen}
-use Rattle.program.specs.Says.{word}
-use Rattle.program.specs.Walk.{kindAt}
-use Rattle.program.specs.Reading.{tests, calls}
+use Rattle.records.specs.Faults.{word}
+use Rattle.records.specs.Walk.{kindAt}
+use Rattle.records.specs.Reading.{tests, calls}
 use Rattle.program.specs.Names.{exprAt, past, thereScalar, thereArray, thereSet, thereCall, thereAt, freeScalar, freeArray, freeAt, passes}
 
 module _ (f : List ℕ) (at v a : ℕ) where

@@ -6,9 +6,9 @@ use lib.ListN.{getD}
 use lib.Dec.{ltb, eqb}
 use Rattle.expr.specs.Tree.{Expr, known, occurs, scalar, array}
 use Rattle.expr.specs.Bytes.{whole}
-use Rattle.program.specs.Says.{word}
-use Rattle.program.specs.Walk.{kindAt}
-use Rattle.program.specs.Reading.{tests, calls}
+use Rattle.records.specs.Faults.{word}
+use Rattle.records.specs.Walk.{kindAt}
+use Rattle.records.specs.Reading.{tests, calls}
 use Rattle.program.specs.declared.names.First.{First}
 use Rattle.program.specs.declared.names.First.the-variants.{Nowhere, At}
 

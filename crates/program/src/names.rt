@@ -3,12 +3,12 @@ ghost use mathlib.Core.Path.{_≡_};
 ghost use Prim.Native.Nat.{_+_, _<_};
 ghost use lib.ListN.{length};
 ghost use Rattle.expr.specs.Tree.{known};
-ghost use Rattle.program.specs.Walk.{offsets};
+ghost use Rattle.records.specs.Walk.{offsets};
 ghost use Rattle.program.specs.Names.{exprAt, thereScalar, thereArray, thereSet, thereCall, thereAt, freeScalar, freeArray, freeAt, passes, firstNot};
-use crate::reading::calls;
-use crate::reading::tests;
-use crate::walk::kind_at;
-use crate::walk::stride;
+use records::reading::calls;
+use records::reading::tests;
+use records::walk::kind_at;
+use records::walk::stride;
 
 // The first record of which a pass says no.
 pub enum First {

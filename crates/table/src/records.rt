@@ -147,12 +147,12 @@ pub fn fill(file: &[u8], table: &mut [u16; 9344]) -> usize
         if at >= file.len() {
             return x;
         }
-        let kind = program::walk::kind_at(file, at);
+        let kind = records::walk::kind_at(file, at);
         note(table, x, q, at, kind);
         enter(table, x, q, kind);
         q = next_owner(q, kind);
         x += 1;
-        at = program::walk::next_at(file, at);
+        at = records::walk::next_at(file, at);
     }
     x
 }

@@ -4,7 +4,7 @@ use Prim.Native.Nat.{_≤_, _-_}
 use native.Mathlib.Nat.{sub-zero}
 use native.Mathlib.Omega.{arith}
 use lib.ListN.{length}
-use Rattle.program.specs.Walk.{offsets}
+use Rattle.records.specs.Walk.{offsets}
 use Rattle.program.specs.Names.{passes, firstNot}
 use Rattle.program.proofs.FirstNot.{left, left-none, left-here, left-more}
 use Rattle.program.proofs.names.first_not.Statement.{statement}
