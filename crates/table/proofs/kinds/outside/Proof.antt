@@ -1,8 +1,8 @@
--- `table::records::outside` meets its contract: the cases of `Stores`. Assumes nothing.
+-- `table::kinds::outside` meets its contract: the cases of `Stores`. Assumes nothing.
 use borrow.Author.Needs.{needs}
 use Rattle.table.proofs.Stores.{stores}
-use Rattle.table.proofs.records.outside.Statement.{statement}
-use Rattle.table.proofs.records.outside.Tie as tie
+use Rattle.table.proofs.kinds.outside.Statement.{statement}
+use Rattle.table.proofs.kinds.outside.Tie as tie
 
 pub outside-spec : {M : Type 1} → statement M
 outside-spec =

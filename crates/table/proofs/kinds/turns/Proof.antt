@@ -1,8 +1,8 @@
--- `table::records::turns` meets its contract: the cases of `Stores`. Assumes nothing.
+-- `table::kinds::turns` meets its contract: the cases of `Stores`. Assumes nothing.
 use borrow.Author.Needs.{needs}
 use Rattle.table.proofs.Stores.{stores}
-use Rattle.table.proofs.records.turns.Statement.{statement}
-use Rattle.table.proofs.records.turns.Tie as tie
+use Rattle.table.proofs.kinds.turns.Statement.{statement}
+use Rattle.table.proofs.kinds.turns.Tie as tie
 
 pub turns-spec : {M : Type 1} → statement M
 turns-spec =

@@ -1,11 +1,11 @@
--- `table::records::fill` meets its contract. The invariant: what is left to be filled gives the whole. Assumes nothing.
+-- `table::kinds::fill` meets its contract. The invariant: what is left to be filled gives the whole. Assumes nothing.
 use Prim.Native.Nat.{_-_, _≤_}
 use native.Mathlib.Omega.{arith}
 use borrow.Author.Needs.{needs}
 use lib.ListN.{length}
 use Rattle.table.proofs.Loops.{Left, left-first, left-stops, left-full, left-on}
-use Rattle.table.proofs.records.fill.Statement.{statement}
-use Rattle.table.proofs.records.fill.Tie as tie
+use Rattle.table.proofs.kinds.fill.Statement.{statement}
+use Rattle.table.proofs.kinds.fill.Tie as tie
 
 abbrev Inv-loop : tie.InvT-loop
 Inv-loop file table₀ x₀ q₀ at₀ table x q at = ((x ≤ 1024) × (q ≤ x)) × ((at ≤ length file) × Left file table₀ table x q at)

@@ -1,8 +1,8 @@
--- `table::records::enter` meets its contract: the cases of `Stores`. Assumes nothing.
+-- `table::kinds::enter` meets its contract: the cases of `Stores`. Assumes nothing.
 use borrow.Author.Needs.{needs}
 use Rattle.table.proofs.Stores.{kinds}
-use Rattle.table.proofs.records.enter.Statement.{statement}
-use Rattle.table.proofs.records.enter.Tie as tie
+use Rattle.table.proofs.kinds.enter.Statement.{statement}
+use Rattle.table.proofs.kinds.enter.Tie as tie
 
 pub enter-spec : {M : Type 1} → statement M
 enter-spec =

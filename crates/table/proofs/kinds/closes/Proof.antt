@@ -1,8 +1,8 @@
--- `table::records::closes` meets its contract: the cases of `Stores`. Assumes nothing.
+-- `table::kinds::closes` meets its contract: the cases of `Stores`. Assumes nothing.
 use borrow.Author.Needs.{needs}
 use Rattle.table.proofs.Stores.{stores}
-use Rattle.table.proofs.records.closes.Statement.{statement}
-use Rattle.table.proofs.records.closes.Tie as tie
+use Rattle.table.proofs.kinds.closes.Statement.{statement}
+use Rattle.table.proofs.kinds.closes.Tie as tie
 
 pub closes-spec : {M : Type 1} → statement M
 closes-spec =

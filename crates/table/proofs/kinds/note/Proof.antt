@@ -1,8 +1,8 @@
--- `table::records::note` meets its contract: the cases of `Stores`. Assumes nothing.
+-- `table::kinds::note` meets its contract: the cases of `Stores`. Assumes nothing.
 use borrow.Author.Needs.{needs}
 use Rattle.table.proofs.Stores.{stores}
-use Rattle.table.proofs.records.note.Statement.{statement}
-use Rattle.table.proofs.records.note.Tie as tie
+use Rattle.table.proofs.kinds.note.Statement.{statement}
+use Rattle.table.proofs.kinds.note.Tie as tie
 
 pub note-spec : {M : Type 1} → statement M
 note-spec =

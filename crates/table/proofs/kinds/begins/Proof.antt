@@ -1,8 +1,8 @@
--- `table::records::begins` meets its contract: the cases of `Stores`. Assumes nothing.
+-- `table::kinds::begins` meets its contract: the cases of `Stores`. Assumes nothing.
 use borrow.Author.Needs.{needs}
 use Rattle.table.proofs.Stores.{stores}
-use Rattle.table.proofs.records.begins.Statement.{statement}
-use Rattle.table.proofs.records.begins.Tie as tie
+use Rattle.table.proofs.kinds.begins.Statement.{statement}
+use Rattle.table.proofs.kinds.begins.Tie as tie
 
 pub begins-spec : {M : Type 1} → statement M
 begins-spec =

@@ -1,8 +1,8 @@
--- `table::records::opens` meets its contract: the cases of `Stores`. Assumes nothing.
+-- `table::kinds::opens` meets its contract: the cases of `Stores`. Assumes nothing.
 use borrow.Author.Needs.{needs}
 use Rattle.table.proofs.Stores.{stores}
-use Rattle.table.proofs.records.opens.Statement.{statement}
-use Rattle.table.proofs.records.opens.Tie as tie
+use Rattle.table.proofs.kinds.opens.Statement.{statement}
+use Rattle.table.proofs.kinds.opens.Tie as tie
 
 pub opens-spec : {M : Type 1} → statement M
 opens-spec =

@@ -1,8 +1,8 @@
--- `table::records::inside` meets its contract: the cases of `Stores`. Assumes nothing.
+-- `table::kinds::inside` meets its contract: the cases of `Stores`. Assumes nothing.
 use borrow.Author.Needs.{needs}
 use Rattle.table.proofs.Stores.{stores}
-use Rattle.table.proofs.records.inside.Statement.{statement}
-use Rattle.table.proofs.records.inside.Tie as tie
+use Rattle.table.proofs.kinds.inside.Statement.{statement}
+use Rattle.table.proofs.kinds.inside.Tie as tie
 
 pub inside-spec : {M : Type 1} → statement M
 inside-spec =

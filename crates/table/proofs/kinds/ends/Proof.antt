@@ -1,8 +1,8 @@
--- `table::records::ends` meets its contract: the cases of `Stores`. Assumes nothing.
+-- `table::kinds::ends` meets its contract: the cases of `Stores`. Assumes nothing.
 use borrow.Author.Needs.{needs}
 use Rattle.table.proofs.Stores.{stores}
-use Rattle.table.proofs.records.ends.Statement.{statement}
-use Rattle.table.proofs.records.ends.Tie as tie
+use Rattle.table.proofs.kinds.ends.Statement.{statement}
+use Rattle.table.proofs.kinds.ends.Tie as tie
 
 pub ends-spec : {M : Type 1} → statement M
 ends-spec =
