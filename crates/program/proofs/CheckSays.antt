@@ -21,14 +21,14 @@ use Rattle.program.specs.Says.{Given, fault, counts, given, All, thereIn
 use Rattle.records.specs.Walk.{offsets, kindsAt}
 use Rattle.records.specs.Reading.{walkOf}
 use Rattle.order.specs.Order.{kinds, orderOf}
-use Rattle.program.specs.Names.{passes}
+use Rattle.names.specs.Names.{passes}
 use Rattle.program.specs.Check.{cellsOf, named, afterOwn, afterThere, afterOrder, afterWalk, checkOf}
 use Rattle.records.specs.declared.Walked.{Walked}
 use Rattle.records.specs.declared.Walked.the-variants.{Fine, Faulty}
 use Rattle.order.specs.declared.Placed.{Placed}
 use Rattle.order.specs.declared.Placed.the-variants.{InOrder, Misplaced}
-use Rattle.program.specs.declared.names.First.{First}
-use Rattle.program.specs.declared.names.First.the-variants.{Nowhere, At}
+use Rattle.names.specs.declared.First.{First}
+use Rattle.names.specs.declared.First.the-variants.{Nowhere, At}
 use Rattle.program.specs.declared.Checked.{Checked}
 use Rattle.program.specs.declared.Checked.the-variants.{Accepted, Refused}
 use Rattle.program.proofs.Declared.{Declares, declares}

@@ -1,16 +1,12 @@
--- For each public function of the crate, and the pass over the records that it makes: any two outcomes that its contract permits are equal.
+-- For each public function of the crate: any two outcomes that its contract permits are equal.
 use mathlib.Core.Path.{_≡_, sym, _∙_}
 use contract.Lifetimes.{Lfts}
 use Rattle.codes.specs.Codes.{AllBytes}
 use Rattle.program.proofs.CheckSays.{says-only}
-use Rattle.program.proofs.names.first_not.Reads as first-not
 use Rattle.program.proofs.arrays.arrays.Reads as arrays
 use Rattle.program.proofs.check.Reads as check
 
 module _ (κs : Lfts 1) where
-  pub first-not-determined : (a : _) (r r′ : _) (s s′ : _) → first-not.Post κs a r s → first-not.Post κs a r′ s′ → r ≡ r′
-  first-not-determined a r r′ s s′ p q = p ∙ sym q
-
   pub arrays-determined : (a : _) (r r′ : _) (s s′ : _) → arrays.Post κs a r s → arrays.Post κs a r′ s′ → r ≡ r′
   arrays-determined a r r′ s s′ p q = p ∙ sym q
 

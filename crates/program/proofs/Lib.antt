@@ -1,6 +1,4 @@
 -- The laws of program files.
-pub mod NamesCases
-pub mod FirstNot
 pub mod Named
 pub mod Passes
 pub mod CellSums

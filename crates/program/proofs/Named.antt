@@ -14,7 +14,7 @@ use Rattle.records.specs.Faults.{word}
 use Rattle.program.specs.Says.{free}
 use Rattle.records.specs.Walk.{kindAt}
 use Rattle.records.specs.Reading.{tests, calls}
-use Rattle.program.specs.Names.{exprAt, past, thereScalar, thereArray, thereCall, thereAt, freeScalar, freeArray, freeAt}
+use Rattle.names.specs.Names.{exprAt, past, thereScalar, thereArray, thereCall, thereAt, freeScalar, freeArray, freeAt}
 use Rattle.records.proofs.Bytes.{front-rest, after}
 use Rattle.records.proofs.Offsets.{kind-is}
 

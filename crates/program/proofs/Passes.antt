@@ -10,9 +10,9 @@ use Rattle.records.specs.Records.{Record, skip, Formed, FineFrom, there}
 use Rattle.program.specs.Says.{FirstNot, All, free}
 use Rattle.records.specs.Faults.{Rows}
 use Rattle.records.specs.Walk.{offsets}
-use Rattle.program.specs.Names.{thereAt, freeAt, firstFrom, firstNot}
-use Rattle.program.specs.declared.names.First.{First}
-use Rattle.program.specs.declared.names.First.the-variants.{Nowhere, At}
+use Rattle.names.specs.Names.{thereAt, freeAt, firstFrom, firstNot}
+use Rattle.names.specs.declared.First.{First}
+use Rattle.names.specs.declared.First.the-variants.{Nowhere, At}
 use Rattle.records.proofs.Offsets.{offsets-of, record-at, short-is}
 use Rattle.program.proofs.Named.{there-at, free-at}
 

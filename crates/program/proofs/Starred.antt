@@ -11,7 +11,7 @@ use Rattle.records.specs.Records.{sum}
 use Rattle.records.specs.Walk.{offsets, offsetsFrom, kindsAt}
 use Rattle.records.specs.Reading.{shortsAt, walkOf, walkFrom, wrongAt, cutAt, unknownAt, sizedAs, namesFit, lengthsFit, formedAs, setBody}
 use Rattle.order.specs.Order.{orderOf, orderFrom, next}
-use Rattle.program.specs.Names.{thereScalar, thereArray, thereCall, thereAt, freeScalar, freeArray, freeAt, firstFrom}
+use Rattle.names.specs.Names.{thereScalar, thereArray, thereCall, thereAt, freeScalar, freeArray, freeAt, firstFrom}
 use Rattle.program.specs.Check.{checkOf, cellsOf}
 use Rattle.program.specs.Says.{Given, fault, counts, given}
 

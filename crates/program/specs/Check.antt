@@ -9,13 +9,13 @@ use Rattle.records.specs.Faults.{word}
 use Rattle.records.specs.Walk.{offsets, kindsAt}
 use Rattle.records.specs.Reading.{shortsAt, walkOf}
 use Rattle.order.specs.Order.{orderOf}
-use Rattle.program.specs.Names.{passes, firstNot}
+use Rattle.names.specs.Names.{passes, firstNot}
 use Rattle.records.specs.declared.Walked.{Walked}
 use Rattle.records.specs.declared.Walked.the-variants.{Fine, Faulty}
 use Rattle.order.specs.declared.Placed.{Placed}
 use Rattle.order.specs.declared.Placed.the-variants.{InOrder, Misplaced}
-use Rattle.program.specs.declared.names.First.{First}
-use Rattle.program.specs.declared.names.First.the-variants.{Nowhere, At}
+use Rattle.names.specs.declared.First.{First}
+use Rattle.names.specs.declared.First.the-variants.{Nowhere, At}
 use Rattle.program.specs.declared.Checked.{Checked}
 use Rattle.program.specs.declared.Checked.the-variants.{Accepted, Refused}
 

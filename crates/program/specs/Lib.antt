@@ -1,4 +1,3 @@
 pub mod Says
-pub mod Names
 pub mod Check
 pub mod Arrays

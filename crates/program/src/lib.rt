@@ -8,7 +8,6 @@ use order::Placed;
 use records::Walked;
 
 pub mod arrays;
-mod names;
 
 // What the check answers: the counts of records, procedures and cells, or the number of the refusal and the record at fault.
 pub enum Checked {
