@@ -14,7 +14,7 @@ use native.Mathlib.Omega.{arith}
 use borrow.Author.Tests.{ltb-true, ltb-false, eqb-true, eqb-false}
 use Rattle.place.specs.Slots.{frameOf, framesIn}
 use Rattle.place.proofs.Held.{frame-back, kind-of, label-of}
-use Rattle.program.specs.Trees.{Tree, recordsOf}
+use Rattle.order.specs.Trees.{Tree, recordsOf}
 use Rattle.program.specs.Says.{Accepts}
 use Rattle.moves.specs.Edges.{Frame, inThen, inElse, inDo, inLoop, called, frameKind, frameLabel}
 use Rattle.moves.proofs.Linked.{Prog}

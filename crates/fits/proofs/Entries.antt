@@ -10,12 +10,12 @@ use lib.ListN.{length, getD, drop}
 use native.Mathlib.Omega.{arith}
 use Rattle.codes.specs.Codes.{word16, bytes16}
 use Rattle.codes.proofs.Rows.{short-back}
-use Rattle.program.specs.Records.{Record, names, begin, end, assign, if, else, fi, from, loop, until, call, uncall, skip, kind, body, encodeRecord, bytesOf, Formed, InSize, FineFrom, isBegin}
-use Rattle.program.specs.Trees.{Tree, recordsOf}
+use Rattle.records.specs.Records.{Record, names, begin, end, assign, if, else, fi, from, loop, until, call, uncall, skip, kind, body, encodeRecord, bytesOf, Formed, InSize, FineFrom, isBegin}
+use Rattle.order.specs.Trees.{Tree, recordsOf}
 use Rattle.program.specs.Says.{Accepts}
-use Rattle.program.specs.Walk.{offsets}
-use Rattle.program.proofs.Bytes.{front-rest}
-use Rattle.program.proofs.Offsets.{record-at}
+use Rattle.records.specs.Walk.{offsets}
+use Rattle.records.proofs.Bytes.{front-rest}
+use Rattle.records.proofs.Offsets.{record-at}
 use Rattle.program.proofs.Passes.{formed-at}
 use Rattle.moves.specs.Labels.{at}
 use Rattle.moves.specs.Places.{down, up}

@@ -14,8 +14,8 @@ use Rattle.place.specs.declared.Place.{Place as Held}
 use Rattle.place.specs.Places.{Dir, down, up, opp, Place, Frame}
 use Rattle.place.specs.Slots.{dirNumber, dirOf, framesIn, held, seen, Plain, Decides, plainOf}
 use Rattle.place.proofs.Held.{seen-held, plain-of, plain-count, plain-kind}
-use Rattle.program.specs.Records.{kind}
-use Rattle.program.specs.Trees.{Tree, recordsOf}
+use Rattle.records.specs.Records.{kind}
+use Rattle.order.specs.Trees.{Tree, recordsOf}
 use Rattle.program.specs.Says.{Accepts}
 use Rattle.moves.specs.Labels.{at}
 use Rattle.moves.specs.Places.{Fits}

@@ -7,8 +7,8 @@ use mathlib.Core.Path.{_≡_, refl, ap, sym, _∙_, subst}
 use mathlib.Core.List.{List, [], _∷_}
 use lib.ListN.{length, List·getD-eq-default}
 use native.Mathlib.Omega.{arith}
-use Rattle.program.specs.Records.{names, kind}
-use Rattle.program.specs.Trees.{Block, Tree, procedures, recordsOf}
+use Rattle.records.specs.Records.{names, kind}
+use Rattle.order.specs.Trees.{Block, Tree, procedures, recordsOf}
 use Rattle.moves.specs.Labels.{at, sizeB, beginFrom, endFrom}
 use Rattle.moves.specs.Edges.{Frame, inThen, inElse, inDo, inLoop, frameKind, frameLabel}
 use Rattle.moves.proofs.Linked.{Con, Rec, nameL, beginL, endL, setL, skipL, ifL, elseL, fiL, fromL, loopL, untilL, callL, uncallL, Prog, forget}

@@ -10,10 +10,10 @@ use Rattle.expr.specs.Tree.{Expr}
 use Rattle.expr.specs.Bytes.{parse}
 use Rattle.place.specs.Places.{Dir, down, up, opp, Frame, inThen, inElse, inDo, inLoop, frameKind, frameLabel}
 use Rattle.place.specs.Slots.{dirNumber, held}
-use Rattle.program.specs.Records.{Target, assign, if, fi, from, until, skip, kind}
-use Rattle.program.specs.Trees.{Tree, recordsOf}
+use Rattle.records.specs.Records.{Target, assign, if, fi, from, until, skip, kind}
+use Rattle.order.specs.Trees.{Tree, recordsOf}
 use Rattle.program.specs.Says.{Accepts}
-use Rattle.program.specs.Reading.{recordAs}
+use Rattle.records.specs.Reading.{recordAs}
 use Rattle.moves.specs.Stores.{Reason, atEnd, wrongValue, zeroDivisor, badIndex, tooDeep, number, Answer, ok, no, bind, Store, holds, assigned}
 use Rattle.moves.specs.Step.{again, same, must}
 use Rattle.moves.proofs.Linked.{Con, Rec, setL, skipL, ifL, elseL, fiL, fromL, loopL, untilL, Prog, forget, side}

@@ -8,14 +8,15 @@ use lib.Dec.{ltb}
 use native.Mathlib.Omega.{arith}
 use borrow.Author.Tests.{lt-ltb, ltb-false, ltb-true}
 use Rattle.place.specs.Slots.{dirNumber}
-use Rattle.program.specs.Records.{Record, names, begin, end, assign, if, else, fi, from, loop, until, call, uncall, skip, kind, body, encodeRecord, bytesOf, Formed, InSize, FineFrom}
-use Rattle.program.specs.Trees.{Tree, recordsOf}
-use Rattle.program.specs.Says.{Accepts, word}
-use Rattle.program.specs.Reading.{recordAs}
-use Rattle.program.specs.Walk.{offsets}
-use Rattle.program.proofs.Offsets.{record-at, word-is, short-is, size-of}
-use Rattle.program.proofs.Bytes.{front-rest}
-use Rattle.program.proofs.Complete.{complete-body}
+use Rattle.records.specs.Records.{Record, names, begin, end, assign, if, else, fi, from, loop, until, call, uncall, skip, kind, body, encodeRecord, bytesOf, Formed, InSize, FineFrom}
+use Rattle.order.specs.Trees.{Tree, recordsOf}
+use Rattle.program.specs.Says.{Accepts}
+use Rattle.records.specs.Faults.{word}
+use Rattle.records.specs.Reading.{recordAs}
+use Rattle.records.specs.Walk.{offsets}
+use Rattle.records.proofs.Offsets.{record-at, word-is, short-is, size-of}
+use Rattle.records.proofs.Bytes.{front-rest}
+use Rattle.records.proofs.Complete.{complete-body}
 use Rattle.moves.specs.Labels.{at}
 use Rattle.moves.specs.Places.{Dir, down, up}
 use Rattle.moves.proofs.Linked.{Rec, nameL, beginL, endL, setL, skipL, ifL, elseL, fiL, fromL, loopL, untilL, callL, uncallL, Prog, forget}

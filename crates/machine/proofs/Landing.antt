@@ -13,7 +13,7 @@ use Rattle.place.specs.declared.Place.{Place as Held}
 use Rattle.place.specs.Places.{Dir, opp, Frame, frameKind, frameLabel}
 use Rattle.place.specs.Slots.{dirNumber, slots, held}
 use Rattle.place.proofs.Laws.{push-slots, pop-slots, change-slots}
-use Rattle.program.specs.Trees.{Tree, recordsOf}
+use Rattle.order.specs.Trees.{Tree, recordsOf}
 use Rattle.program.specs.Says.{Accepts}
 use Rattle.moves.specs.Stores.{Reason, number, Answer, ok, no, Store}
 use Rattle.moves.specs.Step.{again}

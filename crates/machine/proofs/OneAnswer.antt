@@ -14,10 +14,8 @@ use Rattle.place.specs.declared.Place.{Place as Held}
 use Rattle.place.specs.Places.{Dir, Place}
 use Rattle.place.specs.Slots.{held}
 use Rattle.place.proofs.Held.{held-injective}
-use Rattle.program.specs.Trees.{Tree, cells, recordsOf, procedures}
-use Rattle.program.specs.Says.{Accepts, Says, accepted}
-use Rattle.program.specs.declared.Checked.{Checked}
-use Rattle.program.specs.declared.Checked.the-variants.{Accepted, Refused as RefusedFile}
+use Rattle.order.specs.Trees.{Tree, cells, recordsOf, procedures}
+use Rattle.program.specs.Says.{Given, fault, counts, Accepts, Says, accepted}
 use Rattle.program.proofs.CheckSays.{determined, accepts-unique}
 use Rattle.moves.specs.Places.{Fits}
 use Rattle.moves.specs.Stores.{Reason, number, Answer, ok, no, Store, Sized}
@@ -36,14 +34,18 @@ pub not-done : {X : Type 0} {n k : ℕ} → Done ≡ Refused n k → X
 not-done e = no-way (let z : _≡_ {A = ℕ} 0 1 = cc in omega arith)
 
 module _ {f : List ℕ} (B : AllBytes f) where
-  not-both : {t : Tree} {n k : ℕ} → Accepts f t → Says f (RefusedFile n k) → ⊥
-  not-both {t} {n} {k} A s =
-      let e : Accepted (length (recordsOf t)) (length (procedures t)) (cells t) ≡ RefusedFile n k = determined f B _ _ (accepted t A) s in
-      let z : _≡_ {A = ℕ} 0 1 = cc in omega arith
+  not-both : {t : Tree} {n k : ℕ} → Accepts f t → Says f (fault n k) → ⊥
+  unfolding recordsOf
+  not-both {t} A s =
+      let e : length (recordsOf t) ≡ 0 = ap (λ (g : Given). g .records) (determined f B _ _ (accepted t A) s) in
+      omega arith
+
+  faults-one : {n k n′ k′ : ℕ} → Says f (fault n k) → Says f (fault n′ k′) → (n ≡ n′) × (k ≡ k′)
+  faults-one s s′ = let e = determined f B _ _ s s′ in (ap (λ (g : Given). g .number) e, ap (λ (g : Given). g .label) e)
 
   module _ {q : Held} {σ : Store} where
     before-one : {m k m′ k′ : ℕ} → Before f q σ m k → Before f q σ m′ k′ → (m ≡ m′) × (k ≡ k′)
-    before-one (program {n} {k} s) (program {n = n′} {k = k′} s′) = let e : RefusedFile n k ≡ RefusedFile n′ k′ = determined f B _ _ s s′ in (cc, cc)
+    before-one (program s) (program s′) = faults-one s s′
     before-one (program s) (size A h) = no-way (not-both A s)
     before-one (program s) (place A e h) = no-way (not-both A s)
     before-one (size A h) (program s) = no-way (not-both A s)
@@ -98,8 +100,8 @@ module _ {f : List ℕ} (B : AllBytes f) where
           (e₁ ∙ sym e₁′, e₂ ∙ (ap (λ (s : Place × Store). held (s .0)) y ∙ sym e₂′), e₃ ∙ (ap (λ (s : Place × Store). s .1) y ∙ sym e₃′))
 
   pub start-one : {d : Dir} {a a′ : Told} {x x′ : Held} → StartSays f d a x → StartSays f d a′ x′ → (a ≡ a′) × (x ≡ x′)
-  start-one (refused {n} {k} s e₁ e₂) (refused {n = n′} {k = k′} s′ e₁′ e₂′) =
-      let e : RefusedFile n k ≡ RefusedFile n′ k′ = determined f B _ _ s s′ in let z : n ≡ n′ = cc in let y : k ≡ k′ = cc in (e₁ ∙ (ap₂ Refused z y ∙ sym e₁′), e₂ ∙ sym e₂′)
+  start-one (refused s e₁ e₂) (refused s′ e₁′ e₂′) =
+      let z = faults-one s s′ in (e₁ ∙ (ap₂ Refused (z .0) (z .1) ∙ sym e₁′), e₂ ∙ sym e₂′)
   start-one (refused s e₁ e₂) (started A e₁′ e₂′) = no-way (not-both A s)
   start-one (started A e₁ e₂) (refused s e₁′ e₂′) = no-way (not-both A s)
   start-one {d} (started {t} A e₁ e₂) (started {t = t′} A′ e₁′ e₂′) = (e₁ ∙ sym e₁′, e₂ ∙ (ap (λ t. held (start t d)) (accepts-unique f B t t′ A A′) ∙ sym e₂′))

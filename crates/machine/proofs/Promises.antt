@@ -13,7 +13,7 @@ use Rattle.codes.specs.Codes.{AllBytes}
 use Rattle.place.specs.declared.Place.{Place as Held}
 use Rattle.place.specs.Places.{Place}
 use Rattle.place.specs.Slots.{held}
-use Rattle.program.specs.Trees.{Tree}
+use Rattle.order.specs.Trees.{Tree}
 use Rattle.moves.specs.Stores.{Store, Sized}
 use Rattle.moves.specs.Step.{step as forward, stepBack}
 use Rattle.moves.specs.Runs.{run as running, runBack}

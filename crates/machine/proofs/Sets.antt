@@ -13,10 +13,10 @@ use Rattle.expr.specs.Bytes.{parse}
 use Rattle.expr.specs.Answers.{arraysOf, worthAt}
 use Rattle.expr.proofs.Agree.{eval-agree}
 use Rattle.place.specs.Slots.{dirNumber}
-use Rattle.program.specs.Records.{Target, cell, entry, Record, assign}
-use Rattle.program.specs.Trees.{Tree}
-use Rattle.program.specs.Says.{word}
-use Rattle.program.specs.Reading.{recordAs}
+use Rattle.records.specs.Records.{Target, cell, entry, Record, assign}
+use Rattle.order.specs.Trees.{Tree}
+use Rattle.records.specs.Faults.{word}
+use Rattle.records.specs.Reading.{recordAs}
 use Rattle.moves.specs.Places.{Dir, down, up}
 use Rattle.moves.specs.Stores.{Answer, ok, no, badIndex, bind, Store, layout, answered, evaluated, applied, operator, entryAt, cellOf, assigned}
 use Rattle.machine.specs.Sets.{operatorAt, worked, entryBy, setTo, setEntry, setAt}

@@ -5,18 +5,17 @@ use mathlib.Core.Bool.{Bool, true, false}
 use mathlib.Core.List.{List, [], _∷_, _++_, map}
 use lib.ListN.{length}
 use native.Mathlib.Omega.{arith}
-use Rattle.codes.specs.Codes.{AllBytes}
 use Rattle.place.specs.declared.Place.{Place as Held}
 use Rattle.place.specs.Places.{Dir, down, up, opp, Frame, frameKind, frameLabel}
 use Rattle.place.specs.Slots.{dirNumber, slots, held}
 use Rattle.place.specs.Methods.{blankOf, movedOf}
 use Rattle.place.proofs.Laws.{blank-held}
-use Rattle.program.specs.Trees.{Tree, procedures}
-use Rattle.program.specs.Says.{Accepts, Says}
+use Rattle.order.specs.Trees.{Tree, procedures}
+use Rattle.program.specs.Says.{given, Accepts, Says}
 use Rattle.program.specs.Arrays.{arraysAt}
-use Rattle.program.specs.Check.{checkOf}
+use Rattle.program.specs.declared.Checked.{Checked}
 use Rattle.program.specs.declared.Checked.the-variants.{Accepted, Refused as RefusedFile}
-use Rattle.program.proofs.CheckSays.{TreeOf, says, accepted-tree}
+use Rattle.program.proofs.CheckSays.{TreeOf, accepted-of, refused-of}
 use Rattle.moves.specs.Step.{start}
 use Rattle.moves.proofs.Linked.{Prog, side, gateL}
 use Rattle.moves.proofs.Cuts.{gap, leave, in-main, Sits}
@@ -66,13 +65,13 @@ number-is : (up : Bool) → numberOf up ≡ dirNumber (direction up)
 number-is true = refl
 number-is false = refl
 
-module _ (f : List ℕ) (B : AllBytes f) (up : Bool) where
-  pub started-says : (records p c : ℕ) → checkOf f ≡ Accepted records p c → (r : Started) → r ≡ startOf f up → StartSays f (direction up) (r .told) (r .place)
+module _ (f : List ℕ) (a : Checked) (s : Says f (given a)) (up : Bool) where
+  pub started-says : (records p c : ℕ) → a ≡ Accepted records p c → (r : Started) → r ≡ startOf f up → StartSays f (direction up) (r .told) (r .place)
   started-says records p c e r h =
-      let T = accepted-tree f B records p c .0 e in
+      let T = accepted-of f a records p c s e in
       started (T .accepts) (ap (λ (r : Started). r .told) h)
       (ap (λ (r : Started). r .place) h
       ∙ (ap (λ n. movedOf blankOf n (gateOf (tableOf f) 0 n) (alongOf (tableOf f) n (gateOf (tableOf f) 0 n))) (number-is up) ∙ start-held f (T .tree) (T .accepts) (direction up)))
 
-  pub refused-start : (m k : ℕ) → checkOf f ≡ RefusedFile m k → (q : Held) → q ≡ blankOf → StartSays f (direction up) (Refused m k) q
-  refused-start m k e q h = refused (subst (Says f) e (says f B)) refl h
+  pub refused-start : (m k : ℕ) → a ≡ RefusedFile m k → (q : Held) → q ≡ blankOf → StartSays f (direction up) (Refused m k) q
+  refused-start m k e q h = refused (refused-of f a m k s e) refl h

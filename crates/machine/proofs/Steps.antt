@@ -14,10 +14,11 @@ use Rattle.place.specs.Places.{Dir, down, up, opp, Frame, frameKind, frameLabel
 use Rattle.place.specs.Slots.{dirNumber, slots, held}
 use Rattle.place.specs.Methods.{topAt, topIn}
 use Rattle.place.proofs.Laws.{top-held, top-held-none}
-use Rattle.program.specs.Records.{begin, end, call, uncall, kind}
-use Rattle.program.specs.Trees.{Tree, recordsOf}
-use Rattle.program.specs.Says.{Accepts, word}
-use Rattle.program.specs.Reading.{recordAs}
+use Rattle.records.specs.Records.{begin, end, call, uncall, kind}
+use Rattle.order.specs.Trees.{Tree, recordsOf}
+use Rattle.program.specs.Says.{Accepts}
+use Rattle.records.specs.Faults.{word}
+use Rattle.records.specs.Reading.{recordAs}
 use Rattle.moves.specs.Places.{calls, Fits}
 use Rattle.moves.specs.Stores.{Reason, atEnd, wrongValue, zeroDivisor, badIndex, tooDeep, number, Answer, ok, no, Store}
 use Rattle.moves.specs.Step.{step}

@@ -18,7 +18,7 @@ use Rattle.codes.specs.Codes.{AllBytes}
 use Rattle.place.specs.declared.Place.{Place as Held}
 use Rattle.place.specs.Places.{Dir, Place, turn}
 use Rattle.place.specs.Slots.{held}
-use Rattle.program.specs.Trees.{Tree, cells}
+use Rattle.order.specs.Trees.{Tree, cells}
 use Rattle.program.specs.Says.{Accepts}
 use Rattle.moves.specs.Places.{Fits}
 use Rattle.moves.specs.Stores.{Reason, atEnd, wrongValue, zeroDivisor, badIndex, tooDeep, number, Answer, ok, no, Store, Sized}

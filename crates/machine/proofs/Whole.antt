@@ -8,20 +8,18 @@ use lib.Seq.{getD-at, take-all, length-sets}
 use lib.Dec.{eqb, leb}
 use native.Mathlib.Omega.{arith}
 use borrow.Author.Tests.{eqb-true, eqb-false, le-leb}
-use Rattle.codes.specs.Codes.{AllBytes}
 use Rattle.place.specs.declared.Place.{Place as Held}
 use Rattle.place.specs.Places.{Dir, opp, Frame, frameKind, Place, turn}
 use Rattle.place.specs.Slots.{held, slots, Decides}
 use Rattle.place.specs.Methods.{turnedOf}
 use Rattle.place.proofs.Laws.{turned-held, turned-twice}
-use Rattle.program.specs.Trees.{Tree, recordsOf, cells, procedures}
-use Rattle.program.specs.Says.{Accepts, Says}
+use Rattle.order.specs.Trees.{Tree, recordsOf, cells, procedures}
+use Rattle.program.specs.Says.{given, Accepts, Says}
 use Rattle.program.specs.Arrays.{arraysAt}
-use Rattle.program.specs.Check.{checkOf}
 use Rattle.program.specs.declared.Checked.{Checked}
 use Rattle.program.specs.declared.Checked.the-variants.{Accepted, Refused as RefusedFile}
 use Rattle.program.proofs.ArrayTree.{starting, arrays-start, arrays-length}
-use Rattle.program.proofs.CheckSays.{TreeOf, says, accepted-tree}
+use Rattle.program.proofs.CheckSays.{TreeOf, accepted-of, refused-of}
 use Rattle.moves.specs.Places.{calls, Fits}
 use Rattle.moves.specs.Stores.{Reason, atEnd, wrongValue, zeroDivisor, badIndex, tooDeep, number, Answer, ok, no, bind, Store, startsFrom}
 use Rattle.moves.specs.Step.{step, stepBack}
@@ -118,14 +116,14 @@ module _ (f : List ℕ) (q : Held) (σ : Store) (n : ℕ) where
         go false e d D = refused (size A (λ h. eqb-false _ _ e (h ∙ sym ec))) refl refl refl refl
 
   -- an accepted file, as the check answers it
-  pub checked-says : AllBytes f → (records p c : ℕ) → checkOf f ≡ Accepted records p c → (r : Ran) (τ : Store) → Runs (checkedRun f records c q σ n) r τ → Says-run r τ
-  checked-says B records p c e r τ h =
-      let T = accepted-tree f B records p c .0 e in
+  pub checked-says : (a : Checked) → Says f (given a) → (records p c : ℕ) → a ≡ Accepted records p c → (r : Ran) (τ : Store) → Runs (checkedRun f records c q σ n) r τ → Says-run r τ
+  checked-says a s records p c e r τ h =
+      let T = accepted-of f a records p c s e in
       says-result _ r τ h (checked-is (T .tree) (T .accepts) records c (T .records-are) (T .cells-are′))
 
-  pub refused-says : AllBytes f → (m k : ℕ) → checkOf f ≡ RefusedFile m k → (r : Ran) → r ≡ staying m k q → Says-run r σ
-  refused-says B m k e r h =
-      refused (program (subst (Says f) e (says f B))) (ap (λ (r : Ran). r .told) h) (ap (λ (r : Ran). r .steps) h) (ap (λ (r : Ran). r .place) h) refl
+  pub refused-says : (a : Checked) → Says f (given a) → (m k : ℕ) → a ≡ RefusedFile m k → (r : Ran) → r ≡ staying m k q → Says-run r σ
+  refused-says a s m k e r h =
+      refused (program (refused-of f a m k s e)) (ap (λ (r : Ran). r .told) h) (ap (λ (r : Ran). r .steps) h) (ap (λ (r : Ran). r .place) h) refl
 
 -- ---- a run of one is a step
 module _ (move : Tree → Place → Store → Answer (Place × Store)) (f : List ℕ) (q : Held) (σ : Store) where

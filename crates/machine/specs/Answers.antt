@@ -7,9 +7,8 @@ use lib.ListN.{length}
 use Rattle.place.specs.declared.Place.{Place as Held}
 use Rattle.place.specs.Slots.{held}
 use Rattle.place.specs.Methods.{blankOf}
-use Rattle.program.specs.Trees.{Tree, cells}
-use Rattle.program.specs.Says.{Accepts, Says}
-use Rattle.program.specs.declared.Checked.the-variants.{Refused as RefusedFile}
+use Rattle.order.specs.Trees.{Tree, cells}
+use Rattle.program.specs.Says.{fault, Accepts, Says}
 use Rattle.moves.specs.Places.{Dir, down, up, Place, Fits}
 use Rattle.moves.specs.Stores.{Reason, number, Answer, ok, no, Store}
 use Rattle.moves.specs.Step.{start}
@@ -20,7 +19,7 @@ use Rattle.machine.specs.declared.Told.the-variants.{Done, Refused}
 
 -- "Session, step and run calls (n 0 too) check the program first, then .. 20, 21": the number, and the record.
 pub data Before (f : List ℕ) (q : Held) (σ : Store) : ℕ → ℕ → Type 0 where
-  program : {n k : ℕ} → Says f (RefusedFile n k) → Before f q σ n k
+  program : {n k : ℕ} → Says f (fault n k) → Before f q σ n k
   size : {t : Tree} → Accepts f t → (length σ ≡ cells t → ⊥) → Before f q σ 20 0
   place : {t : Tree} → Accepts f t → length σ ≡ cells t → ((p : Place) → q ≡ held p → Fits t p → ⊥) → Before f q σ 21 0
 
@@ -54,5 +53,5 @@ direction true = up
 
 -- A start is a place of the file's tree; a refused file answers the blank place.
 pub data StartSays (f : List ℕ) (d : Dir) (told : Told) (q : Held) : Type 0 where
-  refused : {n k : ℕ} → Says f (RefusedFile n k) → told ≡ Refused n k → q ≡ blankOf → StartSays f d told q
+  refused : {n k : ℕ} → Says f (fault n k) → told ≡ Refused n k → q ≡ blankOf → StartSays f d told q
   started : {t : Tree} → Accepts f t → told ≡ Done → q ≡ held (start t d) → StartSays f d told q

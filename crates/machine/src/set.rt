@@ -10,7 +10,7 @@ ghost use mir.Syntax.{w64};
 ghost use mir.Val.{ofZ};
 ghost use Rattle.expr.specs.Answers.{arraysOf, worthAt};
 ghost use Rattle.expr.specs.Bytes.{parse};
-ghost use Rattle.program.specs.Reading.{targetAt, valueAt};
+ghost use Rattle.records.specs.Reading.{targetAt, valueAt};
 ghost use Rattle.moves.specs.Stores.{applied};
 ghost use Rattle.machine.specs.Sets.{worked, operatorAt, EntrySays, entryBy, faultOf, Leaves, setTo, setEntry, setAt};
 

@@ -8,8 +8,8 @@ use lib.Dec.{ltb}
 use native.Mathlib.Omega.{arith}
 use borrow.Author.Tests.{ltb-true}
 use Rattle.expr.specs.Tree.{known}
-use Rattle.program.specs.Records.{Record, end, else, fi, loop, until, Formed, FineFrom, thereTarget, there, ownTarget, own}
-use Rattle.program.specs.Trees.{Stmt, setS, skipS, callS, uncallS, ifS, fromS, Block, one, _then_, Tree, procedures, recordsS, recordsB, recordsP, recordsOf}
+use Rattle.records.specs.Records.{Record, end, else, fi, loop, until, Formed, FineFrom, thereTarget, there, ownTarget, own}
+use Rattle.order.specs.Trees.{Stmt, setS, skipS, callS, uncallS, ifS, fromS, Block, one, _then_, Tree, procedures, recordsS, recordsB, recordsP, recordsOf}
 use Rattle.program.specs.Says.{All, thereIn, free, Accepts}
 use Rattle.moves.proofs.Cuts.{Undoes, Wf}
 use Rattle.moves.proofs.Rows.{prog}

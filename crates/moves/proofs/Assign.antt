@@ -15,8 +15,8 @@ use Rattle.values.proofs.Laws.{undo-sum, undo-difference, undo-exclusive, sum-f
 use Rattle.expr.specs.Tree.{Expr, Valid, Worth, value, stop, eval, Name, scalar, array, occurs, known, There, Same}
 use Rattle.expr.specs.Answers.{InCell}
 use Rattle.expr.proofs.Agree.{eval-keeps, eval-fits}
-use Rattle.program.specs.Records.{Target, cell, entry, thereTarget, ownTarget, sum}
-use Rattle.program.specs.Trees.{Tree, cells}
+use Rattle.records.specs.Records.{Target, cell, entry, thereTarget, ownTarget, sum}
+use Rattle.order.specs.Trees.{Tree, cells}
 use Rattle.moves.specs.Places.{Dir, down, up, opp}
 use Rattle.moves.specs.Stores.{Answer, ok, no, bind, Store, Sized, startsFrom, layout, reasonOf, answered, evaluated, applied, operator, entryAt, cellOf, assigned, badIndex}
 use Rattle.moves.proofs.Follow.{and-true}

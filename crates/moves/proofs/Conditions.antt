@@ -11,8 +11,8 @@ use native.Mathlib.Omega.{arith}
 use borrow.Author.Tests.{ltb-true, ltb-false, eq-eqb, eqb-true}
 use Rattle.values.specs.Values.{isTrue}
 use Rattle.expr.specs.Tree.{Expr, Fault, byZero, badIndex as outside, Worth, value, stop, eval}
-use Rattle.program.specs.Records.{Target, cell, entry, Record, names, begin, end, assign, if, else, fi, from, loop, until, call, uncall, skip}
-use Rattle.program.specs.Trees.{Tree}
+use Rattle.records.specs.Records.{Target, cell, entry, Record, names, begin, end, assign, if, else, fi, from, loop, until, call, uncall, skip}
+use Rattle.order.specs.Trees.{Tree}
 use Rattle.moves.specs.Edges.{Frame, inThen, inElse, inDo, inLoop, called}
 use Rattle.moves.specs.Places.{Dir, down, up, calls}
 use Rattle.moves.specs.Stores.{Reason, atEnd, wrongValue, zeroDivisor, badIndex, tooDeep, Answer, ok, no, bind, Store, layout, reasonOf, answered, evaluated, holds, entryAt, cellOf, assigned}

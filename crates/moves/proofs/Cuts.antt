@@ -7,8 +7,8 @@ use mathlib.Core.List.{List, [], _∷_}
 use lib.ListN.{length}
 use lib.Dec.{ltb}
 use Rattle.expr.specs.Tree.{Expr}
-use Rattle.program.specs.Records.{Target}
-use Rattle.program.specs.Trees.{Tree}
+use Rattle.records.specs.Records.{Target}
+use Rattle.order.specs.Trees.{Tree}
 use Rattle.moves.specs.Edges.{inThen, inElse, inDo, inLoop}
 use Rattle.moves.specs.Places.{Dir, down, up, opp, calls}
 use Rattle.moves.specs.Stores.{Answer, ok, no, bind, Store, Sized, holds, assigned, atEnd, tooDeep}

@@ -6,7 +6,7 @@ use mathlib.Core.List.{List, [], _∷_, List·Memᴰ, List·Memᴰ·head, List·
 use lib.Dec.{eqb}
 use native.Mathlib.Omega.{arith}
 use borrow.Author.Tests.{eq-eqb, eqb-true}
-use Rattle.program.specs.Trees.{Tree}
+use Rattle.order.specs.Trees.{Tree}
 use Rattle.moves.specs.Edges.{Frame, inThen, inElse, inDo, inLoop, called, frameKind, frameLabel, Edge, edges}
 use Rattle.moves.specs.Places.{Dir, down, up, opp, near, far}
 use Rattle.moves.specs.Step.{sameFrames, ahead}

@@ -5,7 +5,7 @@ use mathlib.Core.List.{List, [], _∷_, _++_}
 use mathlib.Core.Logic.{⊎-elim}
 use native.Mathlib.Omega.{arith}
 use native.Mathlib.Nat.{suc-pred-eq-of-pos}
-use Rattle.program.specs.Trees.{Stmt, setS, skipS, callS, uncallS, ifS, fromS, Block, one, _then_, Tree, procedures}
+use Rattle.order.specs.Trees.{Stmt, setS, skipS, callS, uncallS, ifS, fromS, Block, one, _then_, Tree, procedures}
 use Rattle.moves.specs.Labels.{sizeS, sizeB, exit, beginFrom, endFrom}
 use Rattle.moves.specs.Edges.{Frame, inThen, inElse, inDo, inLoop, Edge, edge, edgesS, edgesB, edgesP, edges}
 use Rattle.moves.specs.Places.{Dir, down, up}

@@ -5,8 +5,8 @@ use lib.ListN.{length}
 use lib.IntN.{pos}
 use Rattle.values.specs.Values.{wrap, applyOp}
 use Rattle.expr.specs.Tree.{con, var, bin, encode, eval}
-use Rattle.program.specs.Records.{cell, kind, words, body, encodeRecord, bytesOf}
-use Rattle.program.specs.Trees.{Tree, setS, skipS, callS, fromS, one, _then_, recordsOf, recordsP, recordsS}
+use Rattle.records.specs.Records.{cell, kind, words, body, encodeRecord, bytesOf}
+use Rattle.order.specs.Trees.{Tree, setS, skipS, callS, fromS, one, _then_, recordsOf, recordsP, recordsS}
 use Rattle.moves.specs.Labels.{sizeS, headsS, headsP, beginFrom, endFrom}
 use Rattle.moves.specs.Edges.{edgesS, edgesP}
 use Rattle.moves.specs.Places.{Place, down}

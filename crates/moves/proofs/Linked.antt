@@ -2,7 +2,7 @@
 use Prim.Native.Nat.{ℕ}
 use mathlib.Core.List.{List}
 use Rattle.expr.specs.Tree.{Expr}
-use Rattle.program.specs.Records.{Target, Record, names, begin, end, assign, if, else, fi, from, loop, until, call, uncall, skip}
+use Rattle.records.specs.Records.{Target, Record, names, begin, end, assign, if, else, fi, from, loop, until, call, uncall, skip}
 use Rattle.moves.specs.Edges.{Frame}
 use Rattle.moves.specs.Places.{Dir, down, up, opp}
 

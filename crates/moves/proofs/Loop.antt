@@ -9,8 +9,8 @@ use native.Mathlib.Omega.{arith}
 use native.Mathlib.Nat.{suc-pred-eq-of-pos}
 use borrow.Author.Tests.{ltb-true, lt-ltb}
 use Rattle.expr.specs.Tree.{Expr}
-use Rattle.program.specs.Records.{Target}
-use Rattle.program.specs.Trees.{Tree}
+use Rattle.records.specs.Records.{Target}
+use Rattle.order.specs.Trees.{Tree}
 use Rattle.moves.specs.Places.{Dir, down, up, opp}
 use Rattle.moves.specs.Stores.{Answer, ok, no, bind, Store, Sized, holds, assigned, tooDeep}
 use Rattle.moves.specs.Step.{same, must}

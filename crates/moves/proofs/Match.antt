@@ -4,8 +4,8 @@ use mathlib.Core.Path.{_≡_, refl, ap, ap₂, sym, _∙_, subst, subst⁻¹}
 use mathlib.Core.List.{List, [], _∷_, _++_, List·Memᴰ}
 use mathlib.Core.Logic.{_⊎_, inl, inr}
 use native.Mathlib.Omega.{arith}
-use Rattle.program.specs.Records.{call, uncall}
-use Rattle.program.specs.Trees.{Tree}
+use Rattle.records.specs.Records.{call, uncall}
+use Rattle.order.specs.Trees.{Tree}
 use Rattle.moves.specs.Labels.{at}
 use Rattle.moves.specs.Edges.{Frame, inThen, inElse, inDo, inLoop, called, edge, edges}
 use Rattle.moves.specs.Places.{Dir, down, up, opp, Place, near, far, calls, Outer, in-main, entered, Fits}

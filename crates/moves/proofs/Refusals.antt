@@ -3,7 +3,7 @@ use Prim.Native.Nat.{ℕ, suc, pred}
 use mathlib.Core.Path.{_≡_, refl, ap, sym, _∙_, subst, subst⁻¹}
 use mathlib.Core.List.{List, [], _∷_, _++_}
 use mathlib.Core.Logic.{inl, inr, _↔_}
-use Rattle.program.specs.Trees.{Tree}
+use Rattle.order.specs.Trees.{Tree}
 use Rattle.moves.specs.Labels.{at, head}
 use Rattle.moves.specs.Edges.{Frame, inThen, inElse}
 use Rattle.moves.specs.Places.{Dir, down, up, Place, Fits}

@@ -5,7 +5,7 @@ use mathlib.Core.List.{List, [], _∷_, _++_}
 use lib.ListN.{length, getD, length-append}
 use native.Mathlib.Omega.{arith}
 use Rattle.expr.specs.Tree.{Expr}
-use Rattle.program.specs.Trees.{Stmt, setS, skipS, callS, uncallS, ifS, fromS, Block, one, _then_, Tree, procedures}
+use Rattle.order.specs.Trees.{Stmt, setS, skipS, callS, uncallS, ifS, fromS, Block, one, _then_, Tree, procedures}
 use Rattle.moves.specs.Labels.{sizeS, sizeB, beginOf, endOf}
 use Rattle.moves.specs.Edges.{Frame, inThen, inElse, inDo, inLoop}
 use Rattle.moves.specs.Places.{calls}

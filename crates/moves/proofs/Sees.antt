@@ -6,7 +6,7 @@ use mathlib.Core.List.{List, [], _∷_, _++_}
 use native.Mathlib.Omega.{arith}
 use borrow.Author.Tests.{eq-eqb}
 use Rattle.expr.specs.Tree.{Expr}
-use Rattle.program.specs.Trees.{Tree}
+use Rattle.order.specs.Trees.{Tree}
 use Rattle.moves.specs.Edges.{Frame, inDo, inLoop}
 use Rattle.moves.specs.Places.{Dir, down, up, opp}
 use Rattle.moves.specs.Stores.{ok, Store, holds, assigned}

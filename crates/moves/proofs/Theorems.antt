@@ -3,7 +3,7 @@ use Prim.Native.Nat.{ℕ, _+_}
 use mathlib.Core.Path.{_≡_}
 use mathlib.Core.List.{List}
 use mathlib.Core.Logic.{_↔_}
-use Rattle.program.specs.Trees.{Tree}
+use Rattle.order.specs.Trees.{Tree}
 use Rattle.program.specs.Says.{Accepts}
 use Rattle.moves.specs.Labels.{at, head}
 use Rattle.moves.specs.Places.{Dir, Place, turn, Fits}

@@ -2,7 +2,7 @@
 use mathlib.Core.Path.{_≡_, refl, ap, ap₂, sym, _∙_, subst, subst⁻¹}
 use mathlib.Core.List.{[]}
 use native.Mathlib.Omega.{arith}
-use Rattle.program.specs.Trees.{Tree}
+use Rattle.order.specs.Trees.{Tree}
 use Rattle.moves.specs.Places.{Dir, down, up, Place, turn, Fits}
 use Rattle.moves.specs.Stores.{Answer, ok, no, bind, Store, Sized, atEnd}
 use Rattle.moves.specs.Step.{step, stepBack, start}

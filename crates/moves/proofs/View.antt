@@ -7,8 +7,8 @@ use lib.ListN.{length}
 use lib.Dec.{ltb}
 use native.Mathlib.Omega.{arith}
 use borrow.Author.Tests.{ltb-true}
-use Rattle.program.specs.Records.{kind}
-use Rattle.program.specs.Trees.{Tree}
+use Rattle.records.specs.Records.{kind}
+use Rattle.order.specs.Trees.{Tree}
 use Rattle.moves.specs.Labels.{at, head}
 use Rattle.moves.specs.Edges.{Frame, inThen, inElse, inDo, inLoop, called, edges}
 use Rattle.moves.specs.Places.{Dir, down, up, opp, Place, calls, gate}

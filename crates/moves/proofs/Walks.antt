@@ -3,7 +3,7 @@ use Prim.Native.Nat.{ℕ}
 use mathlib.Core.Path.{_≡_, refl, subst}
 use mathlib.Core.List.{List, [], _∷_}
 use native.Mathlib.Omega.{arith}
-use Rattle.program.specs.Trees.{Tree}
+use Rattle.order.specs.Trees.{Tree}
 use Rattle.moves.specs.Places.{Dir, Place, Fits}
 use Rattle.moves.specs.Stores.{Answer, ok, no, Store, Sized, Reason, atEnd}
 use Rattle.moves.specs.Step.{step, stepBack, start}

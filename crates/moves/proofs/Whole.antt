@@ -4,7 +4,7 @@ use mathlib.Core.Path.{_≡_, refl, ap, sym, _∙_}
 use mathlib.Core.List.{List, [], _∷_}
 use lib.ListN.{length, getD, length-append, List·getD-eq-default}
 use native.Mathlib.Omega.{arith}
-use Rattle.program.specs.Trees.{Block, Tree, procedures}
+use Rattle.order.specs.Trees.{Block, Tree, procedures}
 use Rattle.moves.specs.Labels.{sizeB, beginFrom, endFrom, beginOf, endOf}
 use Rattle.moves.specs.Stores.{holds}
 use Rattle.moves.proofs.Linked.{nameL, beginL, endL, Prog}

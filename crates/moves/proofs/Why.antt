@@ -7,7 +7,7 @@ use mathlib.Core.Logic.{_⊎_, inl, inr, _↔_, ⊎-elim}
 use lib.Dec.{ltb}
 use native.Mathlib.Omega.{arith}
 use borrow.Author.Tests.{ltb-false, le-ltb}
-use Rattle.program.specs.Trees.{Tree}
+use Rattle.order.specs.Trees.{Tree}
 use Rattle.moves.specs.Edges.{Frame, called}
 use Rattle.moves.specs.Places.{Dir, Place, calls, gate}
 use Rattle.moves.specs.Stores.{Reason, atEnd, wrongValue, tooDeep, Answer, ok, no, bind, Store, holds, assigned}

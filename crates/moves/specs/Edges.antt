@@ -1,7 +1,7 @@
 -- Document 01, 'Labels, places, moves': the edges, each with its procedure and the constructs that enclose it.
 use Prim.Native.Nat.{ℕ, suc, _+_}
 use mathlib.Core.List.{List, [], _∷_, _++_}
-use Rattle.program.specs.Trees.{Stmt, setS, skipS, callS, uncallS, ifS, fromS, Block, one, _then_, Tree, procedures}
+use Rattle.order.specs.Trees.{Stmt, setS, skipS, callS, uncallS, ifS, fromS, Block, one, _then_, Tree, procedures}
 pub use Rattle.place.specs.Places.{Frame, inThen, inElse, inDo, inLoop, called, frameKind, frameLabel}
 use Rattle.moves.specs.Labels.{sizeS, sizeB, exit, middle, ending}
 

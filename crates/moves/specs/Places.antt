@@ -6,8 +6,8 @@ use mathlib.Core.Path.{_≡_}
 use mathlib.Core.Bool.{cond}
 use lib.Dec.{eqb}
 pub use Rattle.place.specs.Places.{Dir, down, up, opp, Place, turn}
-use Rattle.program.specs.Records.{call, uncall}
-use Rattle.program.specs.Trees.{Tree}
+use Rattle.records.specs.Records.{call, uncall}
+use Rattle.order.specs.Trees.{Tree}
 use Rattle.moves.specs.Labels.{at, beginOf, endOf}
 use Rattle.moves.specs.Edges.{Frame, called, frameKind, Edge, edges}
 

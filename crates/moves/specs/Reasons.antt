@@ -8,8 +8,8 @@ use lib.ListN.{getD}
 use lib.IntN.{ℤ, pos, negsuc}
 use Rattle.values.specs.Values.{isTrue}
 use Rattle.expr.specs.Tree.{Expr, read, bin, Fault, byZero, badIndex as outside, value, eval}
-use Rattle.program.specs.Records.{cell, entry, Record, begin, end, assign, if, fi, from, until, call, uncall}
-use Rattle.program.specs.Trees.{Tree}
+use Rattle.records.specs.Records.{cell, entry, Record, begin, end, assign, if, fi, from, until, call, uncall}
+use Rattle.order.specs.Trees.{Tree}
 use Rattle.moves.specs.Labels.{at, head}
 use Rattle.moves.specs.Edges.{Frame, inThen, inElse, inLoop}
 use Rattle.moves.specs.Places.{Dir, down, up, Place, calls}

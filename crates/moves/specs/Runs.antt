@@ -1,7 +1,7 @@
 -- Document 01: runs of n steps, and walks.
 use Prim.Native.Nat.{ℕ, zero, suc}
 use mathlib.Core.List.{List, [], _∷_}
-use Rattle.program.specs.Trees.{Tree}
+use Rattle.order.specs.Trees.{Tree}
 use Rattle.moves.specs.Places.{Place}
 use Rattle.moves.specs.Stores.{Reason, number, Answer, ok, no, Store}
 use Rattle.moves.specs.Step.{step, stepBack}

@@ -10,8 +10,8 @@ use mir.Syntax.{w32}
 use mir.Val.{SFits}
 use Rattle.values.specs.Values.{wrap, xorZ, isTrue}
 use Rattle.expr.specs.Tree.{Expr, Arrays, Fault, byZero, badIndex as outside, Worth, value, stop, eval}
-use Rattle.program.specs.Records.{Target, cell, entry}
-use Rattle.program.specs.Trees.{Tree, cells}
+use Rattle.records.specs.Records.{Target, cell, entry}
+use Rattle.order.specs.Trees.{Tree, cells}
 use Rattle.moves.specs.Places.{Dir, down, up}
 
 -- The five reasons why a step is refused, and their numbers.

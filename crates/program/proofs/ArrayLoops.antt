@@ -6,8 +6,8 @@ use native.Mathlib.Numerals.{add-one}
 use native.Mathlib.Omega.{arith}
 use lib.ListN.{set, replicate}
 use lib.Seq.{sets}
-use Rattle.program.specs.Says.{word}
-use Rattle.program.specs.Reading.{shortsAt}
+use Rattle.records.specs.Faults.{word}
+use Rattle.records.specs.Reading.{shortsAt}
 use Rattle.program.specs.Arrays.{arrayCount, startsFrom, arraysAt}
 
 module _ (f : List ℕ) (n : ℕ) where

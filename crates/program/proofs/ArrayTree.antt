@@ -5,8 +5,8 @@ use Prim.Native.Nat.{ℕ, zero, suc, _+_, _-_, _%_, _≤_, min}
 use native.Mathlib.Omega.{arith}
 use lib.ListN.{length, getD, take, drop, replicate, length-append, length-replicate, replicate-append-replicate}
 use lib.Seq.{sets, sets-eq, take-at, drop-at, drop-drop}
-use Rattle.program.specs.Records.{InSize, sum}
-use Rattle.program.specs.Trees.{Tree, recordsOf}
+use Rattle.records.specs.Records.{InSize, sum}
+use Rattle.order.specs.Trees.{Tree, recordsOf}
 use Rattle.program.specs.Says.{Accepts}
 use Rattle.program.specs.Arrays.{startsFrom, arraysAt}
 use Rattle.program.proofs.Declared.{Declares, declares}

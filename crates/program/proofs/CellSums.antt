@@ -4,9 +4,9 @@ use mathlib.Core.List.{List}
 use Prim.Native.Nat.{ℕ, suc, _+_, _*_, _-_, _≤_, _<_}
 use native.Mathlib.Nat.{add-zero, add-assoc}
 use native.Mathlib.Omega.{arith}
-use Rattle.program.specs.Records.{sum}
-use Rattle.program.specs.Says.{word}
-use Rattle.program.specs.Reading.{shortsAt}
+use Rattle.records.specs.Records.{sum}
+use Rattle.records.specs.Faults.{word}
+use Rattle.records.specs.Reading.{shortsAt}
 use Rattle.program.specs.Check.{cellsOf}
 
 module _ (f : List ℕ) (n : ℕ) where

@@ -5,18 +5,18 @@ use mathlib.Core.Bool.{true, false}
 use Prim.Native.Nat.{ℕ, _≤_, _<_}
 use lib.ListN.{length}
 use borrow.Author.Tests.{lt-ltb, le-ltb}
-use Rattle.program.specs.Says.{word}
-use Rattle.program.specs.Walk.{offsets, kindsAt}
-use Rattle.program.specs.Reading.{walkOf}
-use Rattle.program.specs.Order.{orderOf}
-use Rattle.program.specs.Names.{passes, firstNot}
+use Rattle.records.specs.Faults.{word}
+use Rattle.records.specs.Walk.{offsets, kindsAt}
+use Rattle.records.specs.Reading.{walkOf}
+use Rattle.order.specs.Order.{orderOf}
+use Rattle.names.specs.Names.{passes, firstNot}
 use Rattle.program.specs.Check.{cellsOf, afterOwn, afterThere, afterOrder, afterWalk, checkOf}
-use Rattle.program.specs.declared.Walked.{Walked}
-use Rattle.program.specs.declared.Walked.the-variants.{Fine, Faulty}
-use Rattle.program.specs.declared.order.Placed.{Placed}
-use Rattle.program.specs.declared.order.Placed.the-variants.{InOrder, Misplaced}
-use Rattle.program.specs.declared.names.First.{First}
-use Rattle.program.specs.declared.names.First.the-variants.{Nowhere, At}
+use Rattle.records.specs.declared.Walked.{Walked}
+use Rattle.records.specs.declared.Walked.the-variants.{Fine, Faulty}
+use Rattle.order.specs.declared.Placed.{Placed}
+use Rattle.order.specs.declared.Placed.the-variants.{InOrder, Misplaced}
+use Rattle.names.specs.declared.First.{First}
+use Rattle.names.specs.declared.First.the-variants.{Nowhere, At}
 use Rattle.program.specs.declared.Checked.{Checked}
 use Rattle.program.specs.declared.Checked.the-variants.{Accepted, Refused}
 

@@ -1,9 +1,9 @@
 -- The check's answer is the document's: `checkOf` and `Says` are one.
---     says, only        Says f a exactly if a is checkOf f
---     determined        so the answer is determined
+--     says, only        Says f g exactly if g is what checkOf f gives
+--     says-only         so the code's answer is checkOf f, and determined
 --     accepted-tree     accepted exactly if the file is that of a tree, and its counts are the tree's
 --     accepts-unique    that tree is unique
-use mathlib.Core.Path.{_≡_, refl, sym, ap, _∙_}
+use mathlib.Core.Path.{_≡_, refl, sym, ap, _∙_, subst}
 use mathlib.Core.List.{List, [], _∷_, _++_, map}
 use mathlib.Core.Logic.{_↔_}
 use mathlib.Core.Bool.{Bool, true, false, cond}
@@ -14,26 +14,27 @@ use borrow.Author.Tests.{lt-ltb, le-ltb, ltb-true, ltb-false}
 use lib.Dec.{ltb}
 use lib.ListN.{length, getD}
 use Rattle.codes.specs.Codes.{AllBytes}
-use Rattle.program.specs.Records.{Record, skip, kind, begins}
-use Rattle.program.specs.Trees.{Stmt, setS, skipS, callS, uncallS, ifS, fromS, Block, one, _then_, Tree, recordsS, recordsB, recordsP, recordsOf, procedures, cells, Ordered}
-use Rattle.program.specs.Says.{word, Rows, All, thereIn, free, Accepts, Says, too-long, in-turn, order, not-there, own-name, accepted}
-use Rattle.program.specs.Walk.{offsets, kindsAt}
-use Rattle.program.specs.Reading.{walkOf}
-use Rattle.program.specs.Order.{kinds, orderOf}
-use Rattle.program.specs.Names.{passes}
+use Rattle.records.specs.Records.{Record, skip, kind, begins}
+use Rattle.order.specs.Trees.{Stmt, setS, skipS, callS, uncallS, ifS, fromS, Block, one, _then_, Tree, recordsS, recordsB, recordsP, recordsOf, procedures, cells, Ordered}
+use Rattle.records.specs.Faults.{Wrong, cut, unknown, malformed, oversize, word, Rows}
+use Rattle.program.specs.Says.{Given, fault, counts, given, All, thereIn, free, Accepts, Says, too-long, in-turn, order, not-there, own-name, accepted}
+use Rattle.records.specs.Walk.{offsets, kindsAt}
+use Rattle.records.specs.Reading.{walkOf}
+use Rattle.order.specs.Order.{kinds, orderOf}
+use Rattle.names.specs.Names.{passes}
 use Rattle.program.specs.Check.{cellsOf, named, afterOwn, afterThere, afterOrder, afterWalk, checkOf}
-use Rattle.program.specs.declared.Walked.{Walked}
-use Rattle.program.specs.declared.Walked.the-variants.{Fine, Faulty}
-use Rattle.program.specs.declared.order.Placed.{Placed}
-use Rattle.program.specs.declared.order.Placed.the-variants.{InOrder, Misplaced}
-use Rattle.program.specs.declared.names.First.{First}
-use Rattle.program.specs.declared.names.First.the-variants.{Nowhere, At}
+use Rattle.records.specs.declared.Walked.{Walked}
+use Rattle.records.specs.declared.Walked.the-variants.{Fine, Faulty}
+use Rattle.order.specs.declared.Placed.{Placed}
+use Rattle.order.specs.declared.Placed.the-variants.{InOrder, Misplaced}
+use Rattle.names.specs.declared.First.{First}
+use Rattle.names.specs.declared.First.the-variants.{Nowhere, At}
 use Rattle.program.specs.declared.Checked.{Checked}
 use Rattle.program.specs.declared.Checked.the-variants.{Accepted, Refused}
 use Rattle.program.proofs.Declared.{Declares, declares}
-use Rattle.program.proofs.Offsets.{kinds-of}
-use Rattle.program.proofs.Walking.{walk-fine, fine-walk, walk-wrong, wrong-walk, rows-unique}
-use Rattle.program.proofs.OrderSays.{order-ordered, ordered-order, order-misplaced, misplaced-order, ordered-unique}
+use Rattle.records.proofs.Offsets.{kinds-of}
+use Rattle.records.proofs.Walking.{walk-fine, fine-walk, walk-wrong, wrong-walk, rows-unique}
+use Rattle.order.proofs.OrderSays.{order-ordered, ordered-order, order-misplaced, misplaced-order, ordered-unique}
 use Rattle.program.proofs.Passes.{there-is, free-is, first-at, first-none, at-first, none-first}
 
 -- ---- as many BEGINs as procedures
@@ -69,7 +70,6 @@ unfolding begins recordsOf kind
 begins-tree t = zero-add (begins (recordsP (procedures t))) ∙ begins-p (procedures t)
 
 map-kinds : (rs : List Record) → map kind rs ≡ kinds rs
-unfolding kinds
 map-kinds [] = refl
 map-kinds (r ∷ rs) = ap (_∷_ (kind r)) (map-kinds rs)
 
@@ -125,25 +125,84 @@ module _ (f : List ℕ) (B : AllBytes f) (rs : List Record) (R : Rows f rs) wher
     after-all : All (thereIn t) rs → All free rs → checkOf f ≡ Accepted (length (recordsOf t)) (length (procedures t)) (cells t)
     after-all A L = after-there A ∙ rw (first-none f rs R (asks true f (begins rs)) free same-free L, cells-are, p-is, O .records)
 
+-- ---- an answer that is said is that of one case
+wrong-some : {k b n : ℕ} {rest : List ℕ} → Wrong k b rest n → 0 < n
+wrong-some (cut c) = omega arith
+wrong-some (unknown h c u) = omega arith
+wrong-some (malformed h c u m) = omega arith
+wrong-some (oversize r h c F s o) = omega arith
+
+given-one : (a b : Checked) → (given a .number ≡ 0 → 0 < given a .records) → given a ≡ given b → a ≡ b
+given-one (Accepted r p c) (Accepted r′ p′ c′) h e = λ i. Accepted (e i .records) (e i .procedures) (e i .cells)
+given-one (Accepted r p c) (Refused n k) h e = let z : r ≡ 0 = ap (λ (g : Given). g .records) e in absurd (omega (arith, h refl))
+given-one (Refused n k) (Accepted r p c) h e = absurd (omega (arith, h (ap (λ (g : Given). g .number) e)))
+given-one (Refused n k) (Refused n′ k′) h e = λ i. Refused (e i .number) (e i .label)
+
+module _ (f : List ℕ) where
+  some-record : (g : Given) → Says f g → g .number ≡ 0 → 0 < g .records
+  unfolding recordsOf
+  some-record g (too-long h) e = absurd (omega arith)
+  some-record g (in-turn h rs rest d F w) e = absurd (omega (arith, wrong-some w))
+  some-record g (order rs R m) e = absurd (omega arith)
+  some-record g (not-there rs t R O n) e = absurd (omega arith)
+  some-record g (own-name rs t R O A n) e = absurd (omega arith)
+  some-record g (accepted t A) e = omega arith
+
+  -- the tree of an accepted file
+  pub record TreeOf (r p c : ℕ) : Type 0 where
+    pub tree : Tree
+    pub accepts : Accepts f tree
+    pub records-are : r ≡ length (recordsOf tree)
+    pub procedures-are : p ≡ length (procedures tree)
+    pub cells-are′ : c ≡ cells tree
+
+  of-says : (g : Given) (r p c : ℕ) → Says f g → g ≡ counts r p c → TreeOf r p c
+  of-says g r p c (too-long h) e = absurd (omega (arith, ap (λ (g : Given). g .number) e))
+  of-says g r p c (in-turn h rs rest d F w) e = absurd (omega (arith, wrong-some w, ap (λ (g : Given). g .number) e))
+  of-says g r p c (order rs R m) e = absurd (omega (arith, ap (λ (g : Given). g .number) e))
+  of-says g r p c (not-there rs t R O n) e = absurd (omega (arith, ap (λ (g : Given). g .number) e))
+  of-says g r p c (own-name rs t R O A n) e = absurd (omega (arith, ap (λ (g : Given). g .number) e))
+  of-says g r p c (accepted t A) e =
+      record {
+        tree = t;
+        accepts = A;
+        records-are = ap (λ (g : Given). g .records) (sym e);
+        procedures-are = ap (λ (g : Given). g .procedures) (sym e);
+        cells-are′ = ap (λ (g : Given). g .cells) (sym e);
+      }
+
+  -- what a caller of the check knows where it accepts, and where it refuses
+  pub accepted-of : (a : Checked) (r p c : ℕ) → Says f (given a) → a ≡ Accepted r p c → TreeOf r p c
+  accepted-of a r p c s e = of-says (given a) r p c s (ap given e)
+
+  pub refused-of : (a : Checked) (n k : ℕ) → Says f (given a) → a ≡ Refused n k → Says f (fault n k)
+  refused-of a n k s e = subst (λ a. Says f (given a)) e s
+
 -- ---- the answer is what is said
 module _ (f : List ℕ) (B : AllBytes f) where
-  pub only : (a : Checked) → Says f a → a ≡ checkOf f
-  only a (too-long h) = sym (too-long-is f h)
-  only a (in-turn {n = n} h rs rest e F w) = sym (after-long f h ∙ rw (wrong-walk f B (omega arith) n rs rest e F w))
-  only a (order {k = k} rs R m) = sym (after-walk f B rs R ∙ rw (misplaced-order rs k m))
-  only a (not-there {k = k} rs t R O n) =
-      sym (after-order f B rs R t O ∙ rw (first-at f rs R (asks false f (begins rs)) (thereIn t) (same-there f B rs R t O) k n))
-  only a (own-name {k = k} rs t R O A n) =
-      sym (after-there f B rs R t O A ∙ rw (first-at f rs R (asks true f (begins rs)) free (same-free f B rs R t O) k n))
-  only a (accepted t A) = sym (after-all f B (recordsOf t) (A .rows) t (A .ordered) (A .numbers) (A .owns))
+  gives : (a : Checked) → checkOf f ≡ a → given a ≡ given (checkOf f)
+  gives a e = ap given (sym e)
 
-  pub determined : (a b : Checked) → Says f a → Says f b → a ≡ b
-  determined a b x y = only a x ∙ sym (only b y)
+  pub only : (g : Given) → Says f g → g ≡ given (checkOf f)
+  only g (too-long h) = gives (Refused 1 0) (too-long-is f h)
+  only g (in-turn {n = n} h rs rest e F w) = gives (Refused n (length rs)) (after-long f h ∙ rw (wrong-walk f B (omega arith) n rs rest e F w))
+  only g (order {k = k} rs R m) = gives (Refused 6 k) (after-walk f B rs R ∙ rw (misplaced-order rs k m))
+  only g (not-there {k = k} rs t R O n) =
+      gives (Refused 7 k) (after-order f B rs R t O ∙ rw (first-at f rs R (asks false f (begins rs)) (thereIn t) (same-there f B rs R t O) k n))
+  only g (own-name {k = k} rs t R O A n) =
+      gives (Refused 8 k) (after-there f B rs R t O A ∙ rw (first-at f rs R (asks true f (begins rs)) free (same-free f B rs R t O) k n))
+  only g (accepted t A) = gives _ (after-all f B (recordsOf t) (A .rows) t (A .ordered) (A .numbers) (A .owns))
+
+  pub determined : (g h : Given) → Says f g → Says f h → g ≡ h
+  determined g h x y = only g x ∙ sym (only h y)
+
+  pub says-only : (a : Checked) → Says f (given a) → a ≡ checkOf f
+  says-only a s = given-one a (checkOf f) (some-record f (given a) s) (only (given a) s)
 
   -- each question in turn, by what was found
   module _ (rs : List Record) (R : Rows f rs) where
     module _ (t : Tree) (O : Ordered rs t) where
-      from-own : All (thereIn t) rs → (x : First) → named true f (begins rs) ≡ x → Says f (afterOwn f (length rs) (begins rs) x)
+      from-own : All (thereIn t) rs → (x : First) → named true f (begins rs) ≡ x → Says f (given (afterOwn f (length rs) (begins rs) x))
       from-own A (At k) e = own-name rs t R O A (at-first f rs R (asks true f (begins rs)) free (same-free f B rs R t O) k e)
       from-own A Nowhere e =
           let L = none-first f rs R (asks true f (begins rs)) free (same-free f B rs R t O) e in
@@ -155,18 +214,18 @@ module _ (f : List ℕ) (B : AllBytes f) where
             owns = rw (O .records) L;
           }))
 
-      from-there : (x : First) → named false f (begins rs) ≡ x → Says f (afterThere f (length rs) (begins rs) x)
+      from-there : (x : First) → named false f (begins rs) ≡ x → Says f (given (afterThere f (length rs) (begins rs) x))
       from-there (At k) e = not-there rs t R O (at-first f rs R (asks false f (begins rs)) (thereIn t) (same-there f B rs R t O) k e)
       from-there Nowhere e = from-own (none-first f rs R (asks false f (begins rs)) (thereIn t) (same-there f B rs R t O) e) (named true f (begins rs)) refl
 
-    from-order : (x : Placed) → orderOf (kinds rs) ≡ x → Says f (afterOrder f (length rs) (begins rs) x)
+    from-order : (x : Placed) → orderOf (kinds rs) ≡ x → Says f (given (afterOrder f (length rs) (begins rs) x))
     from-order (Misplaced k) e = order rs R (order-misplaced rs k e)
     from-order InOrder e = let w = order-ordered rs e in from-there (w .0) (w .1) (named false f (begins rs)) refl
 
-  from-rows : (rs : List Record) (r p : ℕ) → Rows f rs → r ≡ length rs → p ≡ begins rs → Says f (afterOrder f r p (orderOf (kindsAt f (offsets f))))
+  from-rows : (rs : List Record) (r p : ℕ) → Rows f rs → r ≡ length rs → p ≡ begins rs → Says f (given (afterOrder f r p (orderOf (kindsAt f (offsets f)))))
   from-rows rs r p R x y = rw (x, y, kinds-are f B rs R) (from-order rs R (orderOf (kinds rs)) refl)
 
-  from-walk : length f ≤ 32768 → (w : Walked) → walkOf f ≡ w → Says f (afterWalk f w)
+  from-walk : length f ≤ 32768 → (w : Walked) → walkOf f ≡ w → Says f (given (afterWalk f w))
   from-walk h (Faulty n k) e =
       let w = walk-wrong f B n k e in
       rw (w .4) (in-turn h (w .0) (w .1) (w .2) (w .3) (w .5))
@@ -174,13 +233,16 @@ module _ (f : List ℕ) (B : AllBytes f) where
       let w = walk-fine f B r p e in
       from-rows (w .0) r p (record { short = h; bytes = w .1; fine = w .2 }) (w .3) (w .4)
 
-  pub says : Says f (checkOf f)
+  pub says : Says f (given (checkOf f))
   unfolding checkOf
   says = go (ltb 32768 (length f)) refl
     where
-      go : (b : Bool) → ltb 32768 (length f) ≡ b → Says f (cond b (Refused 1 0) (afterWalk f (walkOf f)))
+      go : (b : Bool) → ltb 32768 (length f) ≡ b → Says f (given (cond b (Refused 1 0) (afterWalk f (walkOf f))))
       go true e = too-long (ltb-true 32768 (length f) e)
       go false e = from-walk (ltb-false 32768 (length f) e) (walkOf f) refl
+
+  pub says-of : (a : Checked) → a ≡ checkOf f → Says f (given a)
+  says-of a e = subst (λ a. Says f (given a)) (sym e) says
 
   -- ---- accepted files are those of trees
   pub accepts-unique : (t u : Tree) → Accepts f t → Accepts f u → t ≡ u
@@ -191,27 +253,10 @@ module _ (f : List ℕ) (B : AllBytes f) where
       ordered-unique (recordsOf u) t u (rw e at (A .ordered)) (A′ .ordered)
 
   pub accepted-check : (t : Tree) → Accepts f t → checkOf f ≡ Accepted (length (recordsOf t)) (length (procedures t)) (cells t)
-  accepted-check t A = sym (only _ (accepted t A))
+  accepted-check t A = sym (says-only _ (accepted t A))
 
-  -- the tree of an accepted file
-  pub record TreeOf (r p c : ℕ) : Type 0 where
-    pub tree : Tree
-    pub accepts : Accepts f tree
-    pub records-are : r ≡ length (recordsOf tree)
-    pub procedures-are : p ≡ length (procedures tree)
-    pub cells-are′ : c ≡ cells tree
-
-  of-says : (a : Checked) (r p c : ℕ) → Says f a → a ≡ Accepted r p c → TreeOf r p c
-  of-says a r p c (too-long h) e = let z : _≡_ {A = ℕ} 0 1 = cc in absurd (omega arith)
-  of-says a r p c (in-turn h rs rest d F w) e = let z : _≡_ {A = ℕ} 0 1 = cc in absurd (omega arith)
-  of-says a r p c (order rs R m) e = let z : _≡_ {A = ℕ} 0 1 = cc in absurd (omega arith)
-  of-says a r p c (not-there rs t R O n) e = let z : _≡_ {A = ℕ} 0 1 = cc in absurd (omega arith)
-  of-says a r p c (own-name rs t R O A n) e = let z : _≡_ {A = ℕ} 0 1 = cc in absurd (omega arith)
-  of-says a r p c (accepted t A) e =
-      record { tree = t; accepts = A; records-are = cc; procedures-are = cc; cells-are′ = cc }
-
-  pub accepted-tree : (r p c : ℕ) → (checkOf f ≡ Accepted r p c) ↔ TreeOf r p c
+  pub accepted-tree : (r p c : ℕ) → (checkOf f ≡ Accepted r p c) ↔ TreeOf f r p c
   accepted-tree r p c = (
-    of-says (checkOf f) r p c says,
+    accepted-of f (checkOf f) r p c says,
     λ T. accepted-check (T .tree) (T .accepts) ∙ rw (T .records-are, T .procedures-are, T .cells-are′),
   )

@@ -4,11 +4,11 @@ use mathlib.Core.List.{List, _++_}
 use Prim.Native.Nat.{ℕ}
 use lib.ListN.{length, drop}
 use Rattle.codes.proofs.Rows.{short-back}
-use Rattle.program.specs.Records.{Record, names, kind, body, encodeRecord, bytesOf, Formed, InSize, FineFrom}
-use Rattle.program.specs.Trees.{Tree, recordsP, recordsOf, procedures, Ordered}
-use Rattle.program.specs.Says.{word, Rows}
-use Rattle.program.specs.Reading.{shortsAt}
-use Rattle.program.proofs.Bytes.{front-rest, shorts-back}
+use Rattle.records.specs.Records.{Record, names, kind, body, encodeRecord, bytesOf, Formed, InSize, FineFrom}
+use Rattle.order.specs.Trees.{Tree, recordsP, recordsOf, procedures, Ordered}
+use Rattle.records.specs.Faults.{word, Rows}
+use Rattle.records.specs.Reading.{shortsAt}
+use Rattle.records.proofs.Bytes.{front-rest, shorts-back}
 
 pub record Declares (f : List ℕ) (t : Tree) : Type 0 where
   pub scalars-are : word f 4 ≡ t .scalars

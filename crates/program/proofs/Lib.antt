@@ -1,13 +1,4 @@
 -- The laws of program files.
-pub mod Bytes
-pub mod Offsets
-pub mod OrderStarred
-pub mod OrderParts
-pub mod OrderReads
-pub mod OrderText
-pub mod OrderSays
-pub mod NamesCases
-pub mod FirstNot
 pub mod Named
 pub mod Passes
 pub mod CellSums
@@ -17,15 +8,4 @@ pub mod CheckSays
 pub mod ArrayLoops
 pub mod ArrayTree
 pub mod Starred
-pub mod Thirteen
-pub mod Sound
-pub mod Complete
-pub mod Sizes
-pub mod Asked
-pub mod Walking
-pub mod Cases
-pub mod Records
-pub mod Turns
 pub mod Determined
-pub mod OrderCases
-pub mod OrderWalk

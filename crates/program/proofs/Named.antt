@@ -9,13 +9,14 @@ use Rattle.codes.proofs.Rows.{byte-of, short-back}
 use Rattle.expr.specs.Tree.{Expr, encode, known, occurs, scalar, array}
 use Rattle.expr.specs.Bytes.{Stands, Got, whole}
 use Rattle.expr.proofs.Format.{got, whole-of}
-use Rattle.program.specs.Records.{cell, entry, Record, names, begin, end, assign, if, else, fi, from, loop, until, call, uncall, skip, kind, body, encodeRecord, Plain, Formed, there, own}
-use Rattle.program.specs.Says.{word, free}
-use Rattle.program.specs.Walk.{kindAt}
-use Rattle.program.specs.Reading.{tests, calls}
-use Rattle.program.specs.Names.{exprAt, past, thereScalar, thereArray, thereCall, thereAt, freeScalar, freeArray, freeAt}
-use Rattle.program.proofs.Bytes.{front-rest, after}
-use Rattle.program.proofs.Offsets.{kind-is}
+use Rattle.records.specs.Records.{cell, entry, Record, names, begin, end, assign, if, else, fi, from, loop, until, call, uncall, skip, kind, body, encodeRecord, Plain, Formed, there, own}
+use Rattle.records.specs.Faults.{word}
+use Rattle.program.specs.Says.{free}
+use Rattle.records.specs.Walk.{kindAt}
+use Rattle.records.specs.Reading.{tests, calls}
+use Rattle.names.specs.Names.{exprAt, past, thereScalar, thereArray, thereCall, thereAt, freeScalar, freeArray, freeAt}
+use Rattle.records.proofs.Bytes.{front-rest, after}
+use Rattle.records.proofs.Offsets.{kind-is}
 
 module _ (f : List ℕ) where
   -- where a tree's bytes stand, that tree is read

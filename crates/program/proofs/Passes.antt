@@ -6,13 +6,14 @@ use Prim.Native.Nat.{ℕ, zero, suc, _+_, _^_, _<_}
 use native.Mathlib.Nat.{add-zero}
 use native.Mathlib.Omega.{arith}
 use lib.ListN.{length, getD}
-use Rattle.program.specs.Records.{Record, skip, Formed, FineFrom, there}
-use Rattle.program.specs.Says.{FirstNot, All, Rows, free}
-use Rattle.program.specs.Walk.{offsets}
-use Rattle.program.specs.Names.{thereAt, freeAt, firstFrom, firstNot}
-use Rattle.program.specs.declared.names.First.{First}
-use Rattle.program.specs.declared.names.First.the-variants.{Nowhere, At}
-use Rattle.program.proofs.Offsets.{offsets-of, record-at, short-is}
+use Rattle.records.specs.Records.{Record, skip, Formed, FineFrom, there}
+use Rattle.program.specs.Says.{FirstNot, All, free}
+use Rattle.records.specs.Faults.{Rows}
+use Rattle.records.specs.Walk.{offsets}
+use Rattle.names.specs.Names.{thereAt, freeAt, firstFrom, firstNot}
+use Rattle.names.specs.declared.First.{First}
+use Rattle.names.specs.declared.First.the-variants.{Nowhere, At}
+use Rattle.records.proofs.Offsets.{offsets-of, record-at, short-is}
 use Rattle.program.proofs.Named.{there-at, free-at}
 
 -- ---- over positions alone

@@ -7,12 +7,13 @@ use Rattle.values.specs.Values.{applyOp, wrap, floorDiv, floorMod}
 use Rattle.expr.specs.Tree.{Expr, con, bin, Worth, value, stop, worthOf, eval, known, occurs}
 use Rattle.expr.specs.Bytes.{whole, parse, layer}
 use Rattle.expr.specs.Answers.{faultNumber}
-use Rattle.program.specs.Records.{sum}
-use Rattle.program.specs.Walk.{offsets, offsetsFrom, kindsAt}
-use Rattle.program.specs.Reading.{shortsAt, walkOf, walkFrom, wrongAt, cutAt, unknownAt, sizedAs, namesFit, lengthsFit, formedAs, setBody}
-use Rattle.program.specs.Order.{orderOf, orderFrom, next}
-use Rattle.program.specs.Names.{thereScalar, thereArray, thereCall, thereAt, freeScalar, freeArray, freeAt, firstFrom}
-use Rattle.program.specs.Check.{checkOf, cellsOf, Given, given}
+use Rattle.records.specs.Records.{sum}
+use Rattle.records.specs.Walk.{offsets, offsetsFrom, kindsAt}
+use Rattle.records.specs.Reading.{shortsAt, walkOf, walkFrom, wrongAt, cutAt, unknownAt, sizedAs, namesFit, lengthsFit, formedAs, setBody}
+use Rattle.order.specs.Order.{orderOf, orderFrom, next}
+use Rattle.names.specs.Names.{thereScalar, thereArray, thereCall, thereAt, freeScalar, freeArray, freeAt, firstFrom}
+use Rattle.program.specs.Check.{checkOf, cellsOf}
+use Rattle.program.specs.Says.{Given, fault, counts, given}
 
 -- What a line says: a value, the number with which an evaluation stops, or what the check of a file answers.
 pub data Line : Type 0 where
@@ -38,10 +39,10 @@ abbrev - : ℕ → ℤ
 - n = negℤ (pos n)
 
 abbrev refused : ℕ → ℕ → Line
-refused n k = answers (record { number = n; label = k; records = 0; procedures = 0; cells = 0 })
+refused n k = answers (fault n k)
 
 abbrev accepted : ℕ → ℕ → ℕ → Line
-accepted r p c = answers (record { number = 0; label = 0; records = r; procedures = p; cells = c })
+accepted r p c = answers (counts r p c)
 
 -- The records of the files, as bytes.
 abbrev names-0 : List ℕ

@@ -3,8 +3,8 @@ use Prim.Native.Nat.{ℕ, _+_, _%_, min}
 use mathlib.Core.List.{List, [], _∷_}
 use lib.ListN.{replicate}
 use lib.Seq.{sets}
-use Rattle.program.specs.Says.{word}
-use Rattle.program.specs.Reading.{shortsAt}
+use Rattle.records.specs.Faults.{word}
+use Rattle.records.specs.Reading.{shortsAt}
 
 -- "A 0 to 16": of more arrays the first 16.
 abbrev pub arrayCount : List ℕ → ℕ

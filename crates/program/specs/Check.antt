@@ -4,18 +4,18 @@ use mathlib.Core.List.{List}
 use mathlib.Core.Bool.{Bool, true, false, cond}
 use lib.ListN.{length}
 use lib.Dec.{ltb}
-use Rattle.program.specs.Records.{sum}
-use Rattle.program.specs.Says.{word}
-use Rattle.program.specs.Walk.{offsets, kindsAt}
-use Rattle.program.specs.Reading.{shortsAt, walkOf}
-use Rattle.program.specs.Order.{orderOf}
-use Rattle.program.specs.Names.{passes, firstNot}
-use Rattle.program.specs.declared.Walked.{Walked}
-use Rattle.program.specs.declared.Walked.the-variants.{Fine, Faulty}
-use Rattle.program.specs.declared.order.Placed.{Placed}
-use Rattle.program.specs.declared.order.Placed.the-variants.{InOrder, Misplaced}
-use Rattle.program.specs.declared.names.First.{First}
-use Rattle.program.specs.declared.names.First.the-variants.{Nowhere, At}
+use Rattle.records.specs.Records.{sum}
+use Rattle.records.specs.Faults.{word}
+use Rattle.records.specs.Walk.{offsets, kindsAt}
+use Rattle.records.specs.Reading.{shortsAt, walkOf}
+use Rattle.order.specs.Order.{orderOf}
+use Rattle.names.specs.Names.{passes, firstNot}
+use Rattle.records.specs.declared.Walked.{Walked}
+use Rattle.records.specs.declared.Walked.the-variants.{Fine, Faulty}
+use Rattle.order.specs.declared.Placed.{Placed}
+use Rattle.order.specs.declared.Placed.the-variants.{InOrder, Misplaced}
+use Rattle.names.specs.declared.First.{First}
+use Rattle.names.specs.declared.First.the-variants.{Nowhere, At}
 use Rattle.program.specs.declared.Checked.{Checked}
 use Rattle.program.specs.declared.Checked.the-variants.{Accepted, Refused}
 
@@ -53,15 +53,3 @@ afterWalk f (Fine r p) = afterOrder f r p (orderOf (kindsAt f (offsets f)))
 -- "1 is asked first, with record 0. Then each record in turn is asked 2, 3, 4, 5. Then over all records 6, then 7, then 8."
 unfoldable pub checkOf : List ℕ → Checked
 checkOf f = cond (ltb 32768 (length f)) (Refused 1 0) (afterWalk f (walkOf f))
-
--- The document's number and values for each answer: number 0 for an accepted file, with its counts; else the number and the record.
-pub record Given : Type 0 where
-  pub number : ℕ
-  pub label : ℕ
-  pub records : ℕ
-  pub procedures : ℕ
-  pub cells : ℕ
-
-abbrev pub given : Checked → Given
-given (Accepted r p c) = record { number = 0; label = 0; records = r; procedures = p; cells = c }
-given (Refused n k) = record { number = n; label = k; records = 0; procedures = 0; cells = 0 }

@@ -3,8 +3,8 @@ ghost use mathlib.Core.Path.{_≡_};
 ghost use Prim.Native.Nat.{_≤_, min};
 ghost use lib.Seq.{sets};
 ghost use lib.ListN.{replicate};
-ghost use Rattle.program.specs.Says.{word};
-ghost use Rattle.program.specs.Reading.{shortsAt};
+ghost use Rattle.records.specs.Faults.{word};
+ghost use Rattle.records.specs.Reading.{shortsAt};
 ghost use Rattle.program.specs.Arrays.{arrayCount, startsFrom, arraysAt};
 
 fn array_count(file: &[u8]) -> usize

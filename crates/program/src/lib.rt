@@ -1,26 +1,18 @@
 // Program files: the check that answers every file, and the table of a checked one.
 ghost use mathlib.Core.Path.{_≡_};
-ghost use Rattle.program.specs.Check.{cellsOf, afterOwn, afterThere, afterOrder, afterWalk, checkOf};
+ghost use Rattle.program.specs.Check.{cellsOf, afterOwn, afterThere, afterOrder, afterWalk};
+ghost use Rattle.program.specs.Says.{given, Says};
 use names::First;
 use names::first_not;
 use order::Placed;
+use records::Walked;
 
 pub mod arrays;
-mod names;
-mod order;
-mod reading;
-pub mod walk;
 
 // What the check answers: the counts of records, procedures and cells, or the number of the refusal and the record at fault.
 pub enum Checked {
     Accepted(usize, usize, usize),
     Refused(u8, usize),
-}
-
-// What the walk over the records answers: the counts of records and BEGINs, or the number of the refusal and the record at fault.
-pub enum Walked {
-    Fine(usize, usize),
-    Faulty(u8, usize),
 }
 
 // The cells that the first record declares: its scalars and its arrays' lengths.
@@ -94,10 +86,10 @@ fn after_walk(file: &[u8], walked: Walked) -> Checked
 
 // The document's answer for any file.
 pub fn check(file: &[u8]) -> Checked
-    ensures { λ r. ⌜ r ≡ checkOf (now (file .entry)) ⌝ }
+    ensures { λ r. ⌜ Says (now (file .entry)) (given r) ⌝ }
 {
     if 32768 < file.len() {
         return Checked::Refused(1, 0);
     }
-    after_walk(file, reading::walk(file))
+    after_walk(file, records::reading::walk(file))
 }

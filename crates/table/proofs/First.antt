@@ -8,9 +8,9 @@ use lib.Dec.{ltb}
 use native.Mathlib.Omega.{arith}
 use borrow.Author.Tests.{lt-ltb, le-ltb, ne-eqb}
 use lib.ListN.{length, getD, set, length-replicate}
-use Rattle.program.specs.Records.{kind}
-use Rattle.program.specs.Trees.{Tree}
-use Rattle.program.specs.Walk.{kindAt}
+use Rattle.records.specs.Records.{kind}
+use Rattle.order.specs.Trees.{Tree}
+use Rattle.records.specs.Walk.{kindAt}
 use Rattle.moves.proofs.Linked.{Con, Rec, nameL, beginL, endL, setL, skipL, ifL, elseL, fiL, fromL, loopL, untilL, callL, uncallL, Prog, forget, headOf}
 use Rattle.moves.proofs.Cuts.{Local, ProcOk, SimpleOk}
 use Rattle.moves.proofs.Locals.{either}

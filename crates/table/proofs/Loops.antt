@@ -7,8 +7,8 @@ use native.Mathlib.Omega.{arith}
 use native.Mathlib.Numerals.{add-one}
 use borrow.Author.Tests.{lt-ltb, le-ltb}
 use lib.ListN.{length}
-use Rattle.program.specs.Walk.{stride, kindAt, offsetsFrom}
-use Rattle.program.proofs.OrderReads.{le-or-lt}
+use Rattle.records.specs.Walk.{stride, kindAt, offsetsFrom}
+use Rattle.order.proofs.OrderReads.{le-or-lt}
 use Rattle.table.specs.Table.{noted, entered, nextOwner, filled, labelled, share, shared, join, joined, blank, tableOf}
 
 -- ---- The offsets from a position on.

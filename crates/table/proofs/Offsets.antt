@@ -5,8 +5,8 @@ use mathlib.Core.List.{List, [], _∷_, map}
 use lib.ListN.{length, getD}
 use native.Mathlib.Omega.{arith}
 use borrow.Author.Tests.{lt-ltb, le-ltb}
-use Rattle.program.specs.Records.{Record, names, kind}
-use Rattle.program.specs.Walk.{stride, kindAt, offsets, offsetsFrom, kindsAt}
+use Rattle.records.specs.Records.{Record, names, kind}
+use Rattle.records.specs.Walk.{stride, kindAt, offsets, offsetsFrom, kindsAt}
 use Rattle.moves.proofs.Locals.{either}
 use Rattle.table.specs.Table.{labelled}
 

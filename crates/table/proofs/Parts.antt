@@ -3,8 +3,8 @@ use Prim.Native.Nat.{ℕ, suc, _+_, _*_, _<_, pred}
 use mathlib.Core.Path.{_≡_, ap, sym, _∙_}
 use mathlib.Core.List.{List, [], _∷_}
 use native.Mathlib.Omega.{arith}
-use Rattle.program.specs.Records.{kind}
-use Rattle.program.specs.Trees.{Tree}
+use Rattle.records.specs.Records.{kind}
+use Rattle.order.specs.Trees.{Tree}
 use Rattle.moves.specs.Edges.{Frame, frameKind, frameLabel}
 use Rattle.moves.proofs.Linked.{Con, Rec, nameL, beginL, endL, setL, skipL, ifL, elseL, fiL, fromL, loopL, untilL, callL, uncallL, Prog, forget, headOf}
 use Rattle.moves.proofs.Cuts.{CondOk, LoopOk}

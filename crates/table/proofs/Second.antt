@@ -5,7 +5,7 @@ use mathlib.Core.List.{List}
 use native.Mathlib.Omega.{arith}
 use lib.ListN.{length, getD, set, length-set}
 use lib.Seq.{getD-set-same}
-use Rattle.program.specs.Trees.{Tree}
+use Rattle.order.specs.Trees.{Tree}
 use Rattle.moves.proofs.Linked.{Con, Prog, headOf}
 use Rattle.moves.proofs.Locals.{either}
 use Rattle.table.specs.Table.{headAt, share, shared, fromAbove, fromBelow, join, joined}

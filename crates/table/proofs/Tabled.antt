@@ -4,11 +4,11 @@ use mathlib.Core.Path.{_≡_, refl, ap, sym, _∙_, subst}
 use mathlib.Core.List.{List}
 use native.Mathlib.Omega.{arith}
 use lib.ListN.{length, getD}
-use Rattle.program.specs.Records.{kind}
-use Rattle.program.specs.Trees.{Tree, procedures, recordsOf}
-use Rattle.program.specs.Walk.{kindAt, offsets}
+use Rattle.records.specs.Records.{kind}
+use Rattle.order.specs.Trees.{Tree, procedures, recordsOf}
+use Rattle.records.specs.Walk.{kindAt, offsets}
 use Rattle.program.specs.Says.{Accepts}
-use Rattle.program.proofs.Offsets.{offsets-of, kinds-of}
+use Rattle.records.proofs.Offsets.{offsets-of, kinds-of}
 use Rattle.moves.specs.Labels.{at, head}
 use Rattle.moves.specs.Places.{down, up}
 use Rattle.moves.proofs.Linked.{Con, Rec, nameL, beginL, endL, setL, skipL, ifL, elseL, fiL, fromL, loopL, untilL, callL, uncallL, Prog, forget, headOf, onto, off}

@@ -6,7 +6,7 @@ use mathlib.Core.List.{List, [], _∷_}
 use mathlib.Core.Bool.{cond}
 use lib.Dec.{eqb}
 use lib.ListN.{length, getD, set, replicate}
-use Rattle.program.specs.Walk.{kindAt, offsetsFrom}
+use Rattle.records.specs.Walk.{kindAt, offsetsFrom}
 
 unfoldable pub blank : List ℕ
 blank = replicate 9344 0

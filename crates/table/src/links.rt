@@ -1,7 +1,7 @@
 // The second and third pass: the partners of each record, and the labels that one comes to from it.
 ghost use mathlib.Core.Path.{_≡_};
 ghost use Prim.Native.Nat.{suc, pred, _<_, _≤_};
-use crate::records::wide;
+use crate::kinds::wide;
 ghost use Rattle.table.specs.Table.{share, shared, fromAbove, fromBelow, join, joined};
 
 // MIDDLE and TAIL of record x are those of its construct's IF or FROM.

@@ -1,6 +1,4 @@
 -- `machine::run` meets its contract: Whole. Assumes nothing.
-use mathlib.Core.Path.{sym, _∙_}
-use native.Mathlib.Omega.{arith}
 use borrow.Author.Needs.{needs}
 use Rattle.machine.proofs.Whole.{checked-says, refused-says}
 use Rattle.machine.proofs.run.Statement.{statement}
@@ -17,8 +15,8 @@ run-spec =
     (λ c κs. search needs)
     (λ c.
     let k = c .before .before .before .before in
-    refused-says (k .before .before .args .file .now) _ _ _ (λ i. omega (arith, k .before .shared-slice-known .given i)) _ _ (sym (k .check .ensures) ∙ c .before .before .number .given .1) _ (c .stays .ensures))
+    refused-says (k .before .before .args .file .now) _ _ _ (k .check .result) (k .check .ensures) _ _ (c .before .before .number .given .1) _ (c .stays .ensures))
     (λ c. search needs)
     (λ c.
     let k = c .before .before .before .before .before .before in
-    checked-says (k .before .before .args .file .now) _ _ _ (λ i. omega (arith, k .before .shared-slice-known .given i)) _ _ _ (sym (k .check .ensures) ∙ c .before .before .before .before .records .given .1) _ _ (c .before .checked .ensures)))
+    checked-says (k .before .before .args .file .now) _ _ _ (k .check .result) (k .check .ensures) _ _ _ (c .before .before .before .before .records .given .1) _ _ (c .before .checked .ensures)))

@@ -1,0 +1,18 @@
+-- `names::free` meets its contract: its answers are the cases of `NamesCases`.
+use Rattle.names.proofs.NamesCases.{cases}
+use borrow.Author.Needs.{needs}
+use Rattle.names.proofs.free.Statement.{statement}
+use Rattle.names.proofs.free.Tie as tie
+
+pub free-spec : {M : Type 1} → statement M
+free-spec =
+    tie.close
+    (tie.spec
+    (λ c κs. search needs)
+    (λ c. search needs)
+    (λ c κs. search needs)
+    (λ c κs. search needs)
+    (λ c. search cases)
+    (λ c κs. search needs)
+    (λ c. search cases)
+    (λ c. search cases))

@@ -1,0 +1,16 @@
+-- `names::there_scalar` meets its contract: its answers are the cases of `NamesCases`.
+use Rattle.names.proofs.NamesCases.{cases}
+use borrow.Author.Needs.{needs}
+use Rattle.names.proofs.there_scalar.Statement.{statement}
+use Rattle.names.proofs.there_scalar.Tie as tie
+
+pub there-scalar-spec : {M : Type 1} → statement M
+there-scalar-spec =
+    tie.close
+    (tie.spec
+    (λ c. search needs)
+    (λ c κs. search needs)
+    (λ c. search cases)
+    (λ c. search needs)
+    (λ c κs. search needs)
+    (λ c. search cases))

@@ -1,0 +1,9 @@
+-- The laws of the order of records.
+pub mod OrderStarred
+pub mod OrderParts
+pub mod OrderReads
+pub mod OrderText
+pub mod OrderSays
+pub mod OrderCases
+pub mod OrderWalk
+pub mod Determined

@@ -1,9 +1,0 @@
--- `reading::fills` meets its contract: the cases of `Cases`.
-use borrow.Author.Needs.{needs}
-use Rattle.program.proofs.Cases.{filling}
-use Rattle.program.proofs.reading.fills.Statement.{statement}
-use Rattle.program.proofs.reading.fills.Tie as tie
-
-pub fills-spec : {M : Type 1} → statement M
-fills-spec =
-    tie.close (tie.spec (λ c κs. tt) (λ c. search needs) (λ c. search needs) (λ c. search filling) (λ c. search filling))

@@ -1,0 +1,4 @@
+pub mod Records
+pub mod Faults
+pub mod Walk
+pub mod Reading
