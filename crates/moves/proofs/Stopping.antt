@@ -88,6 +88,7 @@ module _ (t : Tree) (σ : Store) where
           let z = zero-divisor o x y a in
           let b : byZero ≡ f = cc in
           subst (Stops t σ (bin o l r)) b (divides (z .0) ql (qr ∙ ap value (z .1)))
+
       go′ : (w : Worth) → eval (layout t) σ l ≡ w → (u : Worth) → eval (layout t) σ r ≡ u → both o w u ≡ stop f
           → ((g : Fault) → eval (layout t) σ l ≡ stop g → Stops t σ l g) → ((g : Fault) → eval (layout t) σ r ≡ stop g → Stops t σ r g) → Stops t σ (bin o l r) f
       go′ (stop g) ql u qr h il ir = in-left (il f (ql ∙ h))
