@@ -35,6 +35,10 @@ not-done e = no-way (let z : _≡_ {A = ℕ} 0 1 = cc in omega arith)
 pub reads-one : {s : List ℕ} {p p′ : Place} {zs zs′ : Store} → Reads s p zs → Reads s p′ zs′ → (p ≡ p′) × (zs ≡ zs′)
 reads-one {p = p} {p′} {zs} {zs′} r r′ = encode-injective p p′ zs zs′ (r .fit) (r′ .fit) (sym (r .file) ∙ r′ .file)
 
+-- a run that makes no step
+abbrev stay : Tree → ℕ → Place → Store → runs.Ran
+stay t n p σ = record { steps = 0; place = p; store = σ; stop = made }
+
 module _ {f : List ℕ} (B : AllBytes f) where
   not-both : {t : Tree} {n k : ℕ} → Accepts f t → Says f (RefusedFile n k) → ⊥
   not-both {t} {n} {k} A s =
@@ -42,21 +46,16 @@ module _ {f : List ℕ} (B : AllBytes f) where
       let z : _≡_ {A = ℕ} 0 1 = cc in omega arith
 
   -- ---- reading
+  -- what is sized and fits for one tree and place of the file is so for the other
+  fits-one : {s : List ℕ} {t t′ : Tree} {p p′ : Place} {zs zs′ : Store} → Accepts f t → Accepts f t′ → Reads s p zs → Reads s p′ zs′ → Fits t p → Fits t′ p′
+  fits-one {t = t} {t′} {p} {p′} A A′ r r′ y = subst (λ t. Fits t p′) (accepts-unique f B t t′ A A′) (subst (Fits t) (reads-one r r′ .0) y)
+
+  size-place : {s : List ℕ} (σ : Store) {t t′ : Tree} {p p′ : Place} {zs zs′ : Store} → Accepts f t → Reads s p zs → ((length zs ≡ cells t) × (length σ ≡ cells t) → ⊥)
+      → Accepts f t′ → Reads s p′ zs′ → length zs′ ≡ cells t′ → length σ ≡ cells t′ → ⊥
+  size-place σ {t} {t′} A r h A′ r′ e e′ =
+      let c = ap cells (accepts-unique f B t′ t A′ A) in h (ap length (reads-one r r′ .1) ∙ e ∙ c, e′ ∙ c)
+
   module _ {s : List ℕ} {σ : Store} where
-    -- what is sized and fits for one tree and place of the file is so for the other
-    sized-one : {t t′ : Tree} {p p′ : Place} {zs zs′ : Store} → Accepts f t → Accepts f t′ → Reads s p zs → Reads s p′ zs′ → length zs ≡ cells t → length zs′ ≡ cells t′
-    sized-one {t} {t′} A A′ r r′ e = ap length (sym (reads-one r r′ .1)) ∙ e ∙ ap cells (accepts-unique f B t t′ A A′)
-
-    lent-one : {t t′ : Tree} → Accepts f t → Accepts f t′ → length σ ≡ cells t → length σ ≡ cells t′
-    lent-one {t} {t′} A A′ e = e ∙ ap cells (accepts-unique f B t t′ A A′)
-
-    fits-one : {t t′ : Tree} {p p′ : Place} {zs zs′ : Store} → Accepts f t → Accepts f t′ → Reads s p zs → Reads s p′ zs′ → Fits t p → Fits t′ p′
-    fits-one {t} {t′} {p} {p′} A A′ r r′ y = subst (λ t. Fits t p′) (accepts-unique f B t t′ A A′) (subst (Fits t) (reads-one r r′ .0) y)
-
-    size-place : {t t′ : Tree} {p p′ : Place} {zs zs′ : Store} → Accepts f t → Reads s p zs → ((length zs ≡ cells t) × (length σ ≡ cells t) → ⊥)
-        → Accepts f t′ → Reads s p′ zs′ → length zs′ ≡ cells t′ → length σ ≡ cells t′ → ⊥
-    size-place A r h A′ r′ e e′ = h (sized-one A′ A r′ r e, lent-one A′ A e′)
-
     before-one : {m k m′ k′ : ℕ} → ReadBefore f s σ m k → ReadBefore f s σ m′ k′ → (m ≡ m′) × (k ≡ k′)
     before-one (program {n} {k} x) (program {n = n′} {k = k′} x′) = let e : RefusedFile n k ≡ RefusedFile n′ k′ = determined f B _ _ x x′ in (cc, cc)
     before-one (program x) (malformed A h) = no-way (not-both A x)
@@ -69,16 +68,16 @@ module _ {f : List ℕ} (B : AllBytes f) where
     before-one (size A r h) (program x) = no-way (not-both A x)
     before-one (size {p = p} {zs = zs} A r h) (malformed A′ h′) = no-way (h′ p zs r)
     before-one (size A r h) (size A′ r′ h′) = (refl, refl)
-    before-one (size A r h) (place A′ r′ e e′ h′) = no-way (size-place A r h A′ r′ e e′)
+    before-one (size A r h) (place A′ r′ e e′ h′) = no-way (size-place σ A r h A′ r′ e e′)
     before-one (place A r e e′ h) (program x) = no-way (not-both A x)
     before-one (place {p = p} {zs = zs} A r e e′ h) (malformed A′ h′) = no-way (h′ p zs r)
-    before-one (place A r e e′ h) (size A′ r′ h′) = no-way (size-place A′ r′ h′ A r e e′)
+    before-one (place A r e e′ h) (size A′ r′ h′) = no-way (size-place σ A′ r′ h′ A r e e′)
     before-one (place A r e e′ h) (place A′ r′ d d′ h′) = (refl, refl)
 
     before-found : {m k : ℕ} {t : Tree} {p : Place} {q : Held} {τ : Store} → ReadBefore f s σ m k → Reads s p τ → machine.Ready f q τ t p → length σ ≡ cells t → ⊥
     before-found (program x) r R e = not-both (R .accepts) x
     before-found {p = p} {τ = τ} (malformed A h) r R e = h p τ r
-    before-found (size A r′ h) r R e = size-place A r′ h (R .accepts) r (R .sized) e
+    before-found (size A r′ h) r R e = size-place σ A r′ h (R .accepts) r (R .sized) e
     before-found (place A r′ d d′ h) r R e = h (fits-one (R .accepts) A r r′ (R .fits))
 
     pub read-one : {a a′ : Told} {q q′ : Held} {τ τ′ : Store} → ReadSays f s σ a q τ → ReadSays f s σ a′ q′ τ′ → (a ≡ a′) × (q ≡ q′) × (τ ≡ τ′)
@@ -90,9 +89,6 @@ module _ {f : List ℕ} (B : AllBytes f) where
 
   -- ---- saving: `run-one` says one refusal of a file, place and store, or none, and one place
   module _ {q : Held} {σ : Store} where
-    abbrev stay : Tree → ℕ → Place → Store → runs.Ran
-    stay t n p σ = record { steps = 0; place = p; store = σ; stop = made }
-
     stays : {m k : ℕ} → machine.Before f q σ m k → machine.RunSays stay f q σ 0 (Refused m k) 0 q σ
     stays b = machine.refused b refl refl refl refl
 
@@ -108,19 +104,20 @@ module _ {f : List ℕ} (B : AllBytes f) where
     pub place-one : {t t′ : Tree} {p p′ : Place} → machine.Ready f q σ t p → machine.Ready f q σ t′ p′ → p ≡ p′
     place-one {p = p} {p′} R R′ = held-injective p p′ (sym (R .holds) ∙ R′ .holds)
 
-    module _ {buf : List ℕ} where
-      room-one : {X : Type 0} {t t′ : Tree} {p p′ : Place} → machine.Ready f q σ t p → length buf < length (encode p σ) → machine.Ready f q σ t′ p′ → length (encode p′ σ) ≤ length buf → X
-      room-one {p = p} {p′} R h R′ h′ = let e : length (encode p σ) ≡ length (encode p′ σ) = ap (λ p. length (encode p σ)) (place-one R R′) in no-way (omega (arith, e, h, h′))
+    room-one : {X : Type 0} (buf : List ℕ) {t t′ : Tree} {p p′ : Place} → machine.Ready f q σ t p → length buf < length (encode p σ) → machine.Ready f q σ t′ p′
+        → length (encode p′ σ) ≤ length buf → X
+    room-one buf {p = p} {p′} R h R′ h′ = let e : length (encode p σ) ≡ length (encode p′ σ) = ap (λ p. length (encode p σ)) (place-one R R′) in no-way (omega (arith, e, h, h′))
 
+    module _ {buf : List ℕ} where
       pub save-one : {a a′ : Told} {n n′ : ℕ} {x x′ : List ℕ} → SaveSays f q σ buf a n x → SaveSays f q σ buf a′ n′ x′ → (a ≡ a′) × (n ≡ n′) × (x ≡ x′)
       save-one (refused b e₁ e₂ e₃) (refused b′ e₁′ e₂′ e₃′) = (e₁ ∙ (refusal-one b b′ ∙ sym e₁′), e₂ ∙ sym e₂′, e₃ ∙ sym e₃′)
       save-one (refused b e₁ e₂ e₃) (short R h e₁′ e₂′ e₃′) = never-both b R
       save-one (refused b e₁ e₂ e₃) (saved R h e₁′ e₂′ e₃′) = never-both b R
       save-one (short R h e₁ e₂ e₃) (refused b e₁′ e₂′ e₃′) = never-both b R
       save-one (short R h e₁ e₂ e₃) (short R′ h′ e₁′ e₂′ e₃′) = (e₁ ∙ sym e₁′, e₂ ∙ sym e₂′, e₃ ∙ sym e₃′)
-      save-one (short R h e₁ e₂ e₃) (saved R′ h′ e₁′ e₂′ e₃′) = room-one R h R′ h′
+      save-one (short R h e₁ e₂ e₃) (saved R′ h′ e₁′ e₂′ e₃′) = room-one buf R h R′ h′
       save-one (saved R h e₁ e₂ e₃) (refused b e₁′ e₂′ e₃′) = never-both b R
-      save-one (saved R h e₁ e₂ e₃) (short R′ h′ e₁′ e₂′ e₃′) = room-one R′ h′ R h
+      save-one (saved R h e₁ e₂ e₃) (short R′ h′ e₁′ e₂′ e₃′) = room-one buf R′ h′ R h
       save-one (saved R h e₁ e₂ e₃) (saved R′ h′ e₁′ e₂′ e₃′) =
           let z = place-one R R′ in
           (e₁ ∙ sym e₁′, e₂ ∙ (ap (λ p. length (encode p σ)) z ∙ sym e₂′), e₃ ∙ (ap (λ p. encode p σ ++ drop (length (encode p σ)) buf) z ∙ sym e₃′))
