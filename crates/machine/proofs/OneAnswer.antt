@@ -34,13 +34,13 @@ pub not-done : {X : Type 0} {n k : ℕ} → Done ≡ Refused n k → X
 not-done e = no-way (let z : _≡_ {A = ℕ} 0 1 = cc in omega arith)
 
 module _ {f : List ℕ} (B : AllBytes f) where
-  not-both : {t : Tree} {n k : ℕ} → Accepts f t → Says f (fault n k) → ⊥
+  pub not-both : {t : Tree} {n k : ℕ} → Accepts f t → Says f (fault n k) → ⊥
   unfolding recordsOf
   not-both {t} A s =
       let e : length (recordsOf t) ≡ 0 = ap (λ (g : Given). g .records) (determined f B _ _ (accepted t A) s) in
       omega arith
 
-  faults-one : {n k n′ k′ : ℕ} → Says f (fault n k) → Says f (fault n′ k′) → (n ≡ n′) × (k ≡ k′)
+  pub faults-one : {n k n′ k′ : ℕ} → Says f (fault n k) → Says f (fault n′ k′) → (n ≡ n′) × (k ≡ k′)
   faults-one s s′ = let e = determined f B _ _ s s′ in (ap (λ (g : Given). g .number) e, ap (λ (g : Given). g .label) e)
 
   module _ {q : Held} {σ : Store} where

@@ -1,16 +1,17 @@
 -- What the check's counts say of an accepted file: its tree, few cells, and what `fits` decides. Assumes nothing.
 use Prim.Native.Nat.{ℕ, _≤_}
-use mathlib.Core.Path.{_≡_}
+use mathlib.Core.Path.{_≡_, refl, subst}
 use mathlib.Core.Bool.{Bool}
 use mathlib.Core.List.{List}
-use Rattle.codes.specs.Codes.{AllBytes}
 use Rattle.place.specs.declared.Place.{Place as Held}
 use Rattle.place.specs.Places.{Place}
 use Rattle.place.specs.Slots.{held, Decides}
 use Rattle.records.specs.Records.{InSize}
 use Rattle.order.specs.Trees.{Tree, cells}
-use Rattle.program.specs.Says.{Accepts}
-use Rattle.program.proofs.CheckSays.{TreeOf, accepted-tree}
+use Rattle.program.specs.Says.{given, Accepts, Says}
+use Rattle.program.specs.declared.Checked.{Checked}
+use Rattle.program.specs.declared.Checked.the-variants.{Accepted}
+use Rattle.program.proofs.CheckSays.{TreeOf, accepted-of}
 use Rattle.program.proofs.Declared.{declares}
 use Rattle.moves.specs.Places.{Fits}
 use Rattle.table.specs.Table.{tableOf}
@@ -24,9 +25,12 @@ pub cells-few : {f : List ℕ} {t : Tree} → Accepts f t → cells t ≤ 2048
 unfolding InSize
 cells-few {f} {t} A = declares f _ (A .rows) t (A .ordered) .sized .1 .1 .1 .1
 
-module _ (f : List ℕ) (records c : ℕ) (K : Counted f records c) (B : AllBytes f) where
-  pub tree-of : TreeOf f B records (K .0) c
-  tree-of = accepted-tree f B records (K .0) c .0 (K .1)
+pub counted : (f : List ℕ) (a : Checked) → Says f (given a) → (records p c : ℕ) → a ≡ Accepted records p c → Counted f records c
+counted f a s records p c e = (p, subst (λ a. Says f (given a)) e s)
+
+module _ (f : List ℕ) (records c : ℕ) (K : Counted f records c) where
+  pub tree-of : TreeOf f records (K .0) c
+  tree-of = accepted-of f (Accepted records (K .0) c) records (K .0) c (K .1) refl
 
   pub fits-asked : (q : Held) (tab : List ℕ) → tab ≡ tableOf f → (g : Bool) → g ≡ fitsIn f tab records q → Decides g ((p : Place) × ((q ≡ held p) × Fits (tree-of .tree) p))
   fits-asked q tab et g eg =

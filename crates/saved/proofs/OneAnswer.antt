@@ -9,10 +9,9 @@ use Rattle.place.specs.declared.Place.{Place as Held}
 use Rattle.place.specs.Places.{Place}
 use Rattle.place.specs.Slots.{held}
 use Rattle.place.proofs.Held.{held-injective}
-use Rattle.order.specs.Trees.{Tree, cells, recordsOf, procedures}
-use Rattle.program.specs.Says.{Accepts, Says, accepted}
-use Rattle.program.specs.declared.Checked.the-variants.{Accepted, Refused as RefusedFile}
-use Rattle.program.proofs.CheckSays.{determined, accepts-unique}
+use Rattle.order.specs.Trees.{Tree, cells}
+use Rattle.program.specs.Says.{Accepts}
+use Rattle.program.proofs.CheckSays.{accepts-unique}
 use Rattle.moves.specs.Places.{Fits}
 use Rattle.moves.specs.Stores.{Store}
 use Rattle.moves.specs.Runs.{made}
@@ -22,11 +21,8 @@ use Rattle.session.proofs.Reading.{encode-injective}
 use Rattle.machine.specs.declared.Told.{Told}
 use Rattle.machine.specs.declared.Told.the-variants.{Done, Refused}
 use Rattle.machine.specs.Answers as machine
-use Rattle.machine.proofs.OneAnswer.{run-one}
+use Rattle.machine.proofs.OneAnswer.{no-way, not-both, faults-one, run-one}
 use Rattle.saved.specs.Answers.{ReadBefore, program, malformed, size, place, ReadSays, refused, found, SaveSays, short, saved}
-
-no-way : {X : Type 0} → ⊥ → X
-no-way h = absurd h
 
 pub not-done : {X : Type 0} {n k : ℕ} → Done ≡ Refused n k → X
 not-done e = no-way (let z : _≡_ {A = ℕ} 0 1 = cc in omega arith)
@@ -40,11 +36,6 @@ abbrev stay : Tree → ℕ → Place → Store → runs.Ran
 stay t n p σ = record { steps = 0; place = p; store = σ; stop = made }
 
 module _ {f : List ℕ} (B : AllBytes f) where
-  not-both : {t : Tree} {n k : ℕ} → Accepts f t → Says f (fault n k) → ⊥
-  not-both {t} {n} {k} A s =
-      let e : Accepted (length (recordsOf t)) (length (procedures t)) (cells t) ≡ RefusedFile n k = determined f B _ _ (accepted t A) s in
-      let z : _≡_ {A = ℕ} 0 1 = cc in omega arith
-
   -- ---- reading
   -- what is sized and fits for one tree and place of the file is so for the other
   fits-one : {s : List ℕ} {t t′ : Tree} {p p′ : Place} {zs zs′ : Store} → Accepts f t → Accepts f t′ → Reads s p zs → Reads s p′ zs′ → Fits t p → Fits t′ p′
@@ -57,25 +48,25 @@ module _ {f : List ℕ} (B : AllBytes f) where
 
   module _ {s : List ℕ} {σ : Store} where
     before-one : {m k m′ k′ : ℕ} → ReadBefore f s σ m k → ReadBefore f s σ m′ k′ → (m ≡ m′) × (k ≡ k′)
-    before-one (program {n} {k} x) (program {n = n′} {k = k′} x′) = let e : RefusedFile n k ≡ RefusedFile n′ k′ = determined f B _ _ x x′ in (cc, cc)
-    before-one (program x) (malformed A h) = no-way (not-both A x)
-    before-one (program x) (size A r h) = no-way (not-both A x)
-    before-one (program x) (place A r e e′ h) = no-way (not-both A x)
-    before-one (malformed A h) (program x) = no-way (not-both A x)
+    before-one (program x) (program x′) = faults-one B x x′
+    before-one (program x) (malformed A h) = no-way (not-both B A x)
+    before-one (program x) (size A r h) = no-way (not-both B A x)
+    before-one (program x) (place A r e e′ h) = no-way (not-both B A x)
+    before-one (malformed A h) (program x) = no-way (not-both B A x)
     before-one (malformed A h) (malformed A′ h′) = (refl, refl)
     before-one (malformed A h) (size {p = p} {zs = zs} A′ r h′) = no-way (h p zs r)
     before-one (malformed A h) (place {p = p} {zs = zs} A′ r e e′ h′) = no-way (h p zs r)
-    before-one (size A r h) (program x) = no-way (not-both A x)
+    before-one (size A r h) (program x) = no-way (not-both B A x)
     before-one (size {p = p} {zs = zs} A r h) (malformed A′ h′) = no-way (h′ p zs r)
     before-one (size A r h) (size A′ r′ h′) = (refl, refl)
     before-one (size A r h) (place A′ r′ e e′ h′) = no-way (size-place σ A r h A′ r′ e e′)
-    before-one (place A r e e′ h) (program x) = no-way (not-both A x)
+    before-one (place A r e e′ h) (program x) = no-way (not-both B A x)
     before-one (place {p = p} {zs = zs} A r e e′ h) (malformed A′ h′) = no-way (h′ p zs r)
     before-one (place A r e e′ h) (size A′ r′ h′) = no-way (size-place σ A′ r′ h′ A r e e′)
     before-one (place A r e e′ h) (place A′ r′ d d′ h′) = (refl, refl)
 
     before-found : {m k : ℕ} {t : Tree} {p : Place} {q : Held} {τ : Store} → ReadBefore f s σ m k → Reads s p τ → machine.Ready f q τ t p → length σ ≡ cells t → ⊥
-    before-found (program x) r R e = not-both (R .accepts) x
+    before-found (program x) r R e = not-both B (R .accepts) x
     before-found {p = p} {τ = τ} (malformed A h) r R e = h p τ r
     before-found (size A r′ h) r R e = size-place σ A r′ h (R .accepts) r (R .sized) e
     before-found (place A r′ d d′ h) r R e = h (fits-one (R .accepts) A r r′ (R .fits))

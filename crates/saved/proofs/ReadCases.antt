@@ -13,10 +13,10 @@ use Rattle.place.specs.Places.{Place}
 use Rattle.place.specs.Slots.{held, Decides}
 use Rattle.place.proofs.Held.{held-injective, yes, no}
 use Rattle.order.specs.Trees.{cells}
-use Rattle.program.specs.Says.{Says}
-use Rattle.program.specs.Check.{checkOf}
+use Rattle.program.specs.Says.{given, Says}
+use Rattle.program.specs.declared.Checked.{Checked}
 use Rattle.program.specs.declared.Checked.the-variants.{Refused as RefusedFile}
-use Rattle.program.proofs.CheckSays.{TreeOf, says}
+use Rattle.program.proofs.CheckSays.{TreeOf, refused-of}
 use Rattle.moves.specs.Places.{Fits}
 use Rattle.moves.specs.Stores.{Store}
 use Rattle.table.specs.Table.{tableOf}
@@ -54,14 +54,14 @@ no-file s b e h = go (reading s) refl b e h
     go (found p zs) k true e h = let z : _≡_ {A = ℕ} 0 1 = cc in absurd (let y : ⊥ = omega arith in y)
     go (found p zs) k false e h = let z : _≡_ {A = ℕ} 0 1 = cc in absurd (let y : ⊥ = omega arith in y)
 
-pub read-program : (f s : List ℕ) (σ : Store) → AllBytes f → (n k : ℕ) → checkOf f ≡ RefusedFile n k → (r : Found) → r ≡ refusing n k
+pub read-program : (f s : List ℕ) (σ : Store) (a : Checked) → Says f (given a) → (n k : ℕ) → a ≡ RefusedFile n k → (r : Found) → r ≡ refusing n k
     → ReadSays f s σ (r .told) (r .place) σ
-read-program f s σ B n k e r h =
-    answers.refused (answers.program (subst (Says f) e (says f B))) (ap (λ (r : Found). r .told) h) (ap (λ (r : Found). r .place) h) refl
+read-program f s σ a x n k e r h =
+    answers.refused (answers.program (refused-of f a n k x e)) (ap (λ (r : Found). r .told) h) (ap (λ (r : Found). r .place) h) refl
 
-module _ (f s : List ℕ) (σ : Store) (records c : ℕ) (K : Counted f records c) (B : AllBytes f) (C : AllBytes s) where
-  abbrev T : TreeOf f B records (K .0) c
-  T = tree-of f records c K B
+module _ (f s : List ℕ) (σ : Store) (records c : ℕ) (K : Counted f records c) (C : AllBytes s) where
+  abbrev T : TreeOf f records (K .0) c
+  T = tree-of f records c K
 
   refuse : (n : ℕ) (r : Found) → r ≡ refusing n 0 → answers.ReadBefore f s σ n 0 → ReadSays f s σ (r .told) (r .place) σ
   refuse n r h b = answers.refused b (ap (λ (r : Found). r .told) h) (ap (λ (r : Found). r .place) h) refl
@@ -96,7 +96,7 @@ module _ (f s : List ℕ) (σ : Store) (records c : ℕ) (K : Counted f records 
             place-is = eq ∙ ap placeOf (S .is)
 
             asked : Decides g ((p : Place) × ((q ≡ held p) × Fits (T .tree) p))
-            asked = fits-asked f records c K B q tab et g eg
+            asked = fits-asked f records c K q tab et g eg
 
             pub read-21 : (r : Found) → not g ≡ true → r ≡ refusing 21 0 → ReadSays f s σ (r .told) (r .place) σ
             read-21 r m e = refuse 21 r e (answers.place (T .accepts) reads sized (l ∙ T .cells-are′) (λ fit. no g asked m (S .p, (place-is, fit))))

@@ -8,15 +8,14 @@ use lib.Dec.{leb}
 use lib.ListN.{length, drop}
 use lib.Seq.{sets, sets-eq}
 use borrow.Author.Tests.{leb-true, leb-false}
-use Rattle.codes.specs.Codes.{AllBytes}
 use Rattle.place.specs.declared.Place.{Place as Held}
 use Rattle.place.specs.Places.{Place}
 use Rattle.place.specs.Slots.{held, Decides}
 use Rattle.place.proofs.Held.{yes, no}
-use Rattle.program.specs.Says.{Says}
-use Rattle.program.specs.Check.{checkOf}
+use Rattle.program.specs.Says.{given, Says}
+use Rattle.program.specs.declared.Checked.{Checked}
 use Rattle.program.specs.declared.Checked.the-variants.{Refused as RefusedFile}
-use Rattle.program.proofs.CheckSays.{TreeOf, says}
+use Rattle.program.proofs.CheckSays.{TreeOf, refused-of}
 use Rattle.moves.specs.Places.{Fits}
 use Rattle.moves.specs.Stores.{Store}
 use Rattle.table.specs.Table.{tableOf}
@@ -34,14 +33,14 @@ use Rattle.saved.specs.Answers.{SaveSays}
 use Rattle.saved.specs.Whole.{Counted, unsaved}
 use Rattle.saved.proofs.Counts.{cells-few, tree-of, fits-asked}
 
-pub save-program : (f : List ℕ) (q : Held) (σ : Store) (buf : List ℕ) → AllBytes f → (n k : ℕ) → checkOf f ≡ RefusedFile n k → (r : Saved) → r ≡ unsaved n k
+pub save-program : (f : List ℕ) (q : Held) (σ : Store) (buf : List ℕ) (a : Checked) → Says f (given a) → (n k : ℕ) → a ≡ RefusedFile n k → (r : Saved) → r ≡ unsaved n k
     → SaveSays f q σ buf (r .told) (r .written) buf
-save-program f q σ buf B n k e r h =
-    answers.refused (machine.program (subst (Says f) e (says f B))) (ap (λ (r : Saved). r .told) h) (ap (λ (r : Saved). r .written) h) refl
+save-program f q σ buf a x n k e r h =
+    answers.refused (machine.program (refused-of f a n k x e)) (ap (λ (r : Saved). r .told) h) (ap (λ (r : Saved). r .written) h) refl
 
-module _ (f : List ℕ) (q : Held) (σ : Store) (buf : List ℕ) (records c : ℕ) (K : Counted f records c) (B : AllBytes f) where
-  abbrev T : TreeOf f B records (K .0) c
-  T = tree-of f records c K B
+module _ (f : List ℕ) (q : Held) (σ : Store) (buf : List ℕ) (records c : ℕ) (K : Counted f records c) where
+  abbrev T : TreeOf f records (K .0) c
+  T = tree-of f records c K
 
   refuse : (n : ℕ) (r : Saved) → r ≡ unsaved n 0 → machine.Before f q σ n 0 → SaveSays f q σ buf (r .told) (r .written) buf
   refuse n r h b = answers.refused b (ap (λ (r : Saved). r .told) h) (ap (λ (r : Saved). r .written) h) refl
@@ -51,7 +50,7 @@ module _ (f : List ℕ) (q : Held) (σ : Store) (buf : List ℕ) (records c : �
 
   module _ (l : length σ ≡ c) (tab : List ℕ) (et : tab ≡ tableOf f) (g : Bool) (eg : g ≡ fitsIn f tab records q) where
     asked : Decides g ((p : Place) × ((q ≡ held p) × Fits (T .tree) p))
-    asked = fits-asked f records c K B q tab et g eg
+    asked = fits-asked f records c K q tab et g eg
 
     pub save-21 : (r : Saved) → not g ≡ true → r ≡ unsaved 21 0 → SaveSays f q σ buf (r .told) (r .written) buf
     save-21 r m e = refuse 21 r e (machine.place (T .accepts) (l ∙ T .cells-are′) (λ p h fit. no g asked m (p, (h, fit))))

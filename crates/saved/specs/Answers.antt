@@ -6,8 +6,7 @@ use lib.ListN.{length, drop}
 use Rattle.place.specs.declared.Place.{Place as Held}
 use Rattle.place.specs.Methods.{blankOf}
 use Rattle.order.specs.Trees.{Tree, cells}
-use Rattle.program.specs.Says.{Accepts, Says}
-use Rattle.program.specs.declared.Checked.the-variants.{Refused as RefusedFile}
+use Rattle.program.specs.Says.{fault, Accepts, Says}
 use Rattle.moves.specs.Places.{Place, Fits}
 use Rattle.moves.specs.Stores.{Store}
 use Rattle.session.specs.Session.{encode, Reads}

@@ -1,7 +1,6 @@
 -- `saved::read` meets its contract. Assumes nothing.
-use mathlib.Core.Path.{sym, _∙_}
-use native.Mathlib.Omega.{arith}
 use borrow.Author.Needs.{needs}
+use Rattle.saved.proofs.Counts.{counted}
 use Rattle.saved.proofs.ReadCases.{read-program}
 use Rattle.saved.proofs.read.Statement.{statement}
 use Rattle.saved.proofs.read.Tie as tie
@@ -14,9 +13,9 @@ read-spec =
     (λ c. search needs)
     (λ c κs. search needs)
     (λ c. search needs)
-    (λ c κs. let k = c .before .before .before .before in (_, sym (k .check .ensures) ∙ c .before .before .records .given .1))
+    (λ c κs. let k = c .before .before .before .before in counted _ (k .check .result) (k .check .ensures) _ _ _ (c .before .before .records .given .1))
     (λ c.
     let k = c .before .before .before .before in
-    read-program (k .before .before .before .args .file .now) _ _ (λ i. omega (arith, k .before .before .shared-slice-known .given i)) _ _ (sym (k .check .ensures) ∙ c .before .before .number .given .1) _ (c .refuses .ensures))
+    read-program (k .before .before .before .args .file .now) _ _ (k .check .result) (k .check .ensures) _ _ (c .before .before .number .given .1) _ (c .refuses .ensures))
     (λ c. search needs)
     (λ c. search needs))
