@@ -14,8 +14,8 @@ use Rattle.place.specs.declared.Place.{Place as Held}
 use Rattle.place.specs.Places.{Dir, Place}
 use Rattle.place.specs.Slots.{held}
 use Rattle.place.proofs.Held.{held-injective}
-use Rattle.order.specs.Trees.{Tree, cells, recordsOf, procedures}
-use Rattle.program.specs.Says.{Given, fault, counts, Accepts, Says, accepted}
+use Rattle.order.specs.Trees.{Tree, cells, recordsOf}
+use Rattle.program.specs.Says.{Given, fault, Accepts, Says, accepted}
 use Rattle.program.proofs.CheckSays.{determined, accepts-unique}
 use Rattle.moves.specs.Places.{Fits}
 use Rattle.moves.specs.Stores.{Reason, number, Answer, ok, no, Store, Sized}

@@ -1,5 +1,5 @@
 -- Refusal 6 as a check that goes over the kinds of the records once: what may come next, and which constructs are open.
--- proofs/OrderSays.antt joins it to Trees.Ordered and Says.Misplaced, which are what a reader believes.
+-- proofs/OrderSays.antt joins it to Trees.Ordered and Trees.Misplaced, which are what a reader believes.
 use Prim.Native.Nat.{ℕ, suc}
 use mathlib.Core.List.{List, [], _∷_, map}
 use mathlib.Core.Bool.{Bool, cond, _&&_, _||_}

@@ -1,4 +1,4 @@
--- What the check answers, by computing: the questions in the document's order. proofs/Check joins it to `Says`.
+-- What the check answers, by computing: the questions in the document's order. proofs/CheckSays joins it to `Says`.
 use Prim.Native.Nat.{ℕ, _+_}
 use mathlib.Core.List.{List}
 use mathlib.Core.Bool.{Bool, true, false, cond}

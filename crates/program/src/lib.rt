@@ -1,4 +1,4 @@
-// Program files: the check that answers every file, and the table of a checked one.
+// Program files: the check that answers every file, and the table of its arrays.
 ghost use mathlib.Core.Path.{_≡_};
 ghost use Rattle.program.specs.Check.{cellsOf, afterOwn, afterThere, afterOrder, afterWalk};
 ghost use Rattle.program.specs.Says.{given, Says};

@@ -1,4 +1,4 @@
--- The walk over the records in turn: `walkOf` answers what `Says` says of refusals 2 to 5.
+-- The walk over the records in turn: `walkOf` answers what Faults says of refusals 2 to 5.
 --     walk-fine, fine-walk      every record is fine: the file is a row of records
 --     walk-wrong, wrong-walk    the first record that is wrong, behind a row of fine ones
 --     rows-unique               bytes are those of one row at most

@@ -1,5 +1,5 @@
 -- Refusals 2 to 5 by computing, on the bytes and a position: the record that starts there, what is wrong with it, and the walk in turn.
--- Nothing here has to be believed: proofs/Reading joins it to `Says`.
+-- Nothing here has to be believed: proofs/Asked and proofs/Walking join it to Faults.
 use Prim.Native.Nat.{ℕ, zero, suc, _+_, _*_}
 use mathlib.Core.List.{List, [], _∷_}
 use mathlib.Core.Bool.{Bool, true, cond, _&&_, _||_}
