@@ -1,0 +1,2 @@
+-- The laws of `lines`.
+pub mod Rows
