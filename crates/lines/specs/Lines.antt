@@ -2,7 +2,7 @@
 use Prim.Native.Nat.{ℕ, zero, suc}
 use mathlib.Core.Bool.{cond}
 use mathlib.Core.List.{List, [], _∷_, _++_}
-use lib.Dec.{eqb}
+use lib.Dec.{eqb, ltb}
 use lib.IntN.{ℤ, pos, negsuc}
 use lib.ListN.{getD}
 use Rattle.words.specs.Words.{put, after, decimal, signedDecimal}
@@ -23,9 +23,13 @@ pair first m second n end = first ∷ decimal m ∷ second ∷ decimal n ∷ end
 
 -- ---- the lines
 
--- `refused N record R`
+-- "1 to 8 carry their record in every call": `refused N record R`; the other numbers have none: `refused N`
+abbrev pub refused : List ℕ
+refused = 114 ∷ 101 ∷ 102 ∷ 117 ∷ 115 ∷ 101 ∷ 100 ∷ 32 ∷ []
+
 abbrev pub refusedLine : ℕ → ℕ → List (List ℕ)
-refusedLine n k = pair (114 ∷ 101 ∷ 102 ∷ 117 ∷ 115 ∷ 101 ∷ 100 ∷ 32 ∷ []) n (32 ∷ 114 ∷ 101 ∷ 99 ∷ 111 ∷ 114 ∷ 100 ∷ 32 ∷ []) k (10 ∷ [])
+refusedLine n k =
+    cond (ltb n 9) (pair refused n (32 ∷ 114 ∷ 101 ∷ 99 ∷ 111 ∷ 114 ∷ 100 ∷ 32 ∷ []) k (10 ∷ [])) (refused ∷ decimal n ∷ (10 ∷ []) ∷ [])
 
 -- `steps N stop R`
 abbrev pub stepsLine : ℕ → ℕ → List (List ℕ)

@@ -23,20 +23,25 @@ fn put_pair(
     words::put_bytes(buf, l, end)
 }
 
-// `refused N record R`
+// `refused N record R` for the numbers 1 to 8, else `refused N`
 pub fn put_refused(buf: &mut [u8], at: usize, number: u8, label: usize) -> usize
     ensures { λ r. ⌜ r ≡ afterAll (now (buf .entry)) at (refusedLine number label) ⌝ }
     ensures { λ _. ⌜ now (buf .exit) ≡ putAll (now (buf .entry)) at (refusedLine number label) ⌝ }
 {
-    put_pair(
-        buf,
-        at,
-        b"refused ",
-        number as u64,
-        b" record ",
-        label as u64,
-        b"\n",
-    )
+    if number < 9 {
+        return put_pair(
+            buf,
+            at,
+            b"refused ",
+            number as u64,
+            b" record ",
+            label as u64,
+            b"\n",
+        );
+    }
+    let i = words::put_bytes(buf, at, b"refused ");
+    let j = words::put_decimal(buf, i, number as u64);
+    words::put_bytes(buf, j, b"\n")
 }
 
 // `steps N stop R`
