@@ -2,13 +2,16 @@
 --     piece, joined    a piece and a row, two rows
 --     whole            where all of it fits, the row's bytes stand at the position
 use mathlib.Core.Path.{_≡_, refl, sym, ap, _∙_}
+use mathlib.Core.Bool.{Bool, true, false, cond}
 use mathlib.Core.List.{List, [], _∷_, _++_}
 use Prim.Native.Nat.{ℕ, zero, suc, _+_, _-_, _≤_, _<_}
 use native.Mathlib.Numerals.{add-one}
 use native.Mathlib.Omega.{arith}
+use lib.Dec.{leb}
 use lib.IntN.{ℤ, pos, negsuc}
 use lib.ListN.{length, getD, drop, drop-of-length-le}
-use lib.Seq.{drop-cons}
+use lib.Seq.{drop-cons, sets, length-sets}
+use borrow.Author.Tests.{leb-true}
 use mir.Syntax.{w32}
 use mir.Val.{SFits, ofZ}
 use Rattle.words.specs.Words.{put, after}
@@ -88,3 +91,23 @@ frames-again b₀ b c at i n m all ks ls h p f d r q =
 pub frames-end :
     (b₀ b : List ℕ) (at i n : ℕ) (all : List (List ℕ)) (ks ls : List ℕ) → i ≡ 0 → Finishes b₀ at all b n (frameLines i ks ls) → Row b₀ at all b n
 frames-end b₀ b at i n all ks ls e f = f b n (rw (frames-none ks ls i e) (none b n))
+
+-- ---- a row stays within its buffer
+kept : (b w : List ℕ) (at : ℕ) → length (put b at w) ≡ length b
+kept b w at = go (leb (at + length w) (length b))
+  where
+    go : (t : Bool) → length (cond t (sets b at w) b) ≡ length b
+    go true = simp length-sets
+    go false = refl
+
+past : (b w : List ℕ) (at : ℕ) → at ≤ length b → after b at w ≤ length b
+past b w at h = go (leb (at + length w) (length b)) refl
+  where
+    go : (t : Bool) → leb (at + length w) (length b) ≡ t → cond t (at + length w) at ≤ length b
+    go true e = leb-true (at + length w) (length b) e
+    go false e = h
+
+pub within : (b : List ℕ) (at : ℕ) (ws : List (List ℕ)) → at ≤ length b → afterAll b at ws ≤ length b
+unfolding afterAll
+within b at [] h = h
+within b at (w ∷ ws) h = rw (kept b w at) at (within (put b at w) (after b at w) ws (rw (kept b w at) (past b w at h)))
