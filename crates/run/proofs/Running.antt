@@ -28,8 +28,8 @@ use Rattle.machine.specs.declared.Told.{Told}
 use Rattle.machine.specs.declared.Told.the-variants.{Done}
 use Rattle.machine.specs.Answers.{RunSays, ran, StartSays, started, toldOf}
 use Rattle.machine.proofs.OneAnswer.{run-one, start-one}
-use Rattle.lines.specs.Lines.{putAll, afterAll, refusedLine}
-use Rattle.lines.proofs.Rows.{within}
+use Rattle.print.specs.Lines.{putAll, afterAll, refusedLine}
+use Rattle.print.proofs.Rows.{within}
 use Rattle.run.specs.Report.{noughts, length-noughts, reportLines, ranLines, Prints, Reports, Counted, reasonOf}
 use Rattle.run.specs.Report as report
 

@@ -14,7 +14,7 @@ use Rattle.moves.specs.Step.{start}
 use Rattle.moves.specs.Runs.{Ran, run, stopNumber}
 use Rattle.machine.specs.declared.Told.{Told}
 use Rattle.machine.specs.declared.Told.the-variants.{Done, Refused}
-use Rattle.lines.specs.Lines.{putAll, afterAll, refusedLine, stepsLine, atLine, cellLines}
+use Rattle.print.specs.Lines.{putAll, afterAll, refusedLine, stepsLine, atLine, cellLines}
 
 -- So many zeros, under a name that stays shut.
 unfoldable pub noughts : ℕ → List ℤ

@@ -1,7 +1,7 @@
 // The program `run`: a program file on standard input, from its start down on zeros, at most 1,000,000 steps.
 ghost use mathlib.Core.Path.{_≡_};
 ghost use lib.ListN.{length};
-ghost use Rattle.lines.specs.Lines.{putAll, afterAll};
+ghost use Rattle.print.specs.Lines.{putAll, afterAll};
 ghost use Rattle.run.specs.Report.{noughts, reportLines, Reports, Counted, Zeroed, reasonOf};
 use files::Got;
 use libc::STDIN_FILENO;
@@ -42,9 +42,9 @@ fn put_report(text: &mut [u8], steps: u32, reason: u8, place: Place, store: &[i3
     ensures { λ r. ⌜ r ≡ afterAll (now (text .entry)) 0 (reportLines steps reason (place .a) (place .b) (place .direction) (now (store .entry))) ⌝ }
     ensures { λ _. ⌜ now (text .exit) ≡ putAll (now (text .entry)) 0 (reportLines steps reason (place .a) (place .b) (place .direction) (now (store .entry))) ⌝ }
 {
-    let i = lines::put_steps(text, 0, steps, reason);
-    let j = lines::put_at(text, i, place.a, place.b, place.direction);
-    lines::put_cells(text, j, store)
+    let i = print::put_steps(text, 0, steps, reason);
+    let j = print::put_at(text, i, place.a, place.b, place.direction);
+    print::put_cells(text, j, store)
 }
 
 // A run of a program that is accepted, on a store of zeros.
@@ -73,7 +73,7 @@ fn report(file: &[u8], text: &mut [u8]) -> usize
     ensures { λ r. ⌜ Reports (now (file .entry)) (now (text .entry)) (now (text .exit)) r ⌝ }
 {
     match program::check(file) {
-        Checked::Refused(number, label) => lines::put_refused(text, 0, number, label),
+        Checked::Refused(number, label) => print::put_refused(text, 0, number, label),
         Checked::Accepted(_, _, cells) => ran(file, cells, text),
     }
 }

@@ -1,6 +1,6 @@
 -- `run::put_report` meets its contract: its lines, one after another. Assumes nothing.
 use borrow.Author.Needs.{needs}
-use Rattle.lines.proofs.Rows.{joined}
+use Rattle.print.proofs.Rows.{joined}
 use Rattle.run.specs.Report.{reportLines}
 use Rattle.run.proofs.put_report.Statement.{statement}
 use Rattle.run.proofs.put_report.Tie as tie

@@ -1,2 +1,0 @@
--- The laws of `lines`.
-pub mod Rows

@@ -1,2 +1,0 @@
--- The definitions of `lines`.
-pub mod Lines
