@@ -5,6 +5,7 @@ pub mod CellSums
 pub mod CheckCases
 pub mod Declared
 pub mod CheckSays
+pub mod Few
 pub mod ArrayLoops
 pub mod ArrayTree
 pub mod Starred

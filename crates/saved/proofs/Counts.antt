@@ -1,18 +1,16 @@
--- What the check's counts say of an accepted file: its tree, few cells, and what `fits` decides. Assumes nothing.
-use Prim.Native.Nat.{ℕ, _≤_}
-use mathlib.Core.Path.{_≡_, refl, subst}
+-- What the check's counts say of an accepted file: its tree, and what `fits` decides. Assumes nothing.
+use Prim.Native.Nat.{ℕ}
+use mathlib.Core.Path.{_≡_, refl}
 use mathlib.Core.Bool.{Bool}
 use mathlib.Core.List.{List}
 use Rattle.place.specs.declared.Place.{Place as Held}
 use Rattle.place.specs.Places.{Place}
 use Rattle.place.specs.Slots.{held, Decides}
-use Rattle.records.specs.Records.{InSize}
-use Rattle.order.specs.Trees.{Tree, cells}
-use Rattle.program.specs.Says.{given, Accepts, Says}
+use Rattle.program.specs.Says.{given, Says}
 use Rattle.program.specs.declared.Checked.{Checked}
 use Rattle.program.specs.declared.Checked.the-variants.{Accepted}
 use Rattle.program.proofs.CheckSays.{TreeOf, accepted-of}
-use Rattle.program.proofs.Declared.{declares}
+use Rattle.program.proofs.Few.{accepted-counts}
 use Rattle.moves.specs.Places.{Fits}
 use Rattle.table.specs.Table.{tableOf}
 use Rattle.table.proofs.Tabled.{tabled}
@@ -20,13 +18,8 @@ use Rattle.fits.specs.Fits.{fitsIn}
 use Rattle.fits.proofs.FitsLaw.{fits-law}
 use Rattle.saved.specs.Whole.{Counted}
 
--- "cells (V plus all lengths) at most 2,048"
-pub cells-few : {f : List ℕ} {t : Tree} → Accepts f t → cells t ≤ 2048
-unfolding InSize
-cells-few {f} {t} A = declares f _ (A .rows) t (A .ordered) .sized .1 .1 .1 .1
-
 pub counted : (f : List ℕ) (a : Checked) → Says f (given a) → (records p c : ℕ) → a ≡ Accepted records p c → Counted f records c
-counted f a s records p c e = (p, subst (λ a. Says f (given a)) e s)
+counted f a s records p c e = (p, accepted-counts f a s records p c e)
 
 module _ (f : List ℕ) (records c : ℕ) (K : Counted f records c) where
   pub tree-of : TreeOf f records (K .0) c

@@ -16,6 +16,7 @@ use Rattle.program.specs.Says.{given, Says}
 use Rattle.program.specs.declared.Checked.{Checked}
 use Rattle.program.specs.declared.Checked.the-variants.{Refused as RefusedFile}
 use Rattle.program.proofs.CheckSays.{TreeOf, refused-of}
+use Rattle.program.proofs.Few.{cells-few}
 use Rattle.moves.specs.Places.{Fits}
 use Rattle.moves.specs.Stores.{Store}
 use Rattle.table.specs.Table.{tableOf}
@@ -31,7 +32,7 @@ use Rattle.saved.specs.declared.Saved.{Saved}
 use Rattle.saved.specs.Answers as answers
 use Rattle.saved.specs.Answers.{SaveSays}
 use Rattle.saved.specs.Whole.{Counted, unsaved}
-use Rattle.saved.proofs.Counts.{cells-few, tree-of, fits-asked}
+use Rattle.saved.proofs.Counts.{tree-of, fits-asked}
 
 pub save-program : (f : List ℕ) (q : Held) (σ : Store) (buf : List ℕ) (a : Checked) → Says f (given a) → (n k : ℕ) → a ≡ RefusedFile n k → (r : Saved) → r ≡ unsaved n k
     → SaveSays f q σ buf (r .told) (r .written) buf

@@ -1,0 +1,2 @@
+-- The laws of `bench`.
+pub mod Rooms

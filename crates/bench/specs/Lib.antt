@@ -1,0 +1,2 @@
+-- The definitions of `bench`.
+pub mod Room

@@ -1,0 +1,176 @@
+// Files in, answers out: both files are read before either is judged, and a session is written before its answer is printed.
+ghost use mathlib.Core.Path.{_≡_};
+ghost use Prim.Native.Nat.{_≤_};
+ghost use lib.ListN.{length};
+ghost use Rattle.bench.specs.Room.{Room};
+use crate::answer::Answer;
+use crate::answer::answered;
+use crate::answer::cells_of;
+use crate::answer::checked;
+use crate::answer::started;
+use crate::command::Command;
+use files::Got;
+use libc::STDERR_FILENO;
+
+// One byte more than the longest program file, and than the longest session that could be sound.
+const FILE: usize = 32769;
+
+const SESSION: usize = 69961;
+
+// A word of the command line has fewer bytes on Linux.
+const NAME: usize = 131072;
+
+const CELLS: usize = 2048;
+
+fn no_file() -> [u8; FILE]
+    ensures { λ r. ⌜ 32769 ≡ length r ⌝ }
+{
+    [0; FILE]
+}
+
+fn no_session() -> [u8; SESSION]
+    ensures { λ r. ⌜ 69961 ≡ length r ⌝ }
+{
+    [0; SESSION]
+}
+
+fn no_name() -> [u8; NAME]
+    ensures { λ r. ⌜ 131072 ≡ length r ⌝ }
+{
+    [0; NAME]
+}
+
+fn zeros() -> [i32; CELLS]
+    ensures { λ r. ⌜ 2048 ≡ length r ⌝ }
+{
+    [0; CELLS]
+}
+
+fn complain(name: &[u8], error: i32) {
+    files::complain(b"bench", name, error);
+}
+
+fn usage() {
+    io::write_all(
+        STDERR_FILENO,
+        b"usage: bench check FILE | start FILE SESSION [down|up] | step FILE SESSION [N] | ",
+    );
+    io::write_all(
+        STDERR_FILENO,
+        b"back FILE SESSION [N] | set FILE SESSION CELL VALUE | show FILE SESSION\n",
+    );
+}
+
+// Saves the new session, if there is one, then says the text.
+fn finish(name: &[u8], answer: Answer, buffer: &[u8], text: &[u8])
+    requires { ⌜ Room answer (length (now buffer)) (length (now text)) ⌝ }
+{
+    if answer.wrong {
+        usage();
+        return;
+    }
+    let written = answer.written;
+    let said = answer.said;
+    if written > 0 {
+        let error = files::replace(name, &buffer[..written]);
+        if error != 0 {
+            complain(name, error);
+            return;
+        }
+    }
+    files::say(b"bench", &text[..said]);
+}
+
+fn check(file: &[u8]) {
+    let mut text = io::large_buffer();
+    let n = checked(file, &mut text);
+    files::say(b"bench", &text[..n]);
+}
+
+// A command on the session with that name.
+fn on_session(command: Command, file: &[u8], name: &[u8], session: &[u8]) {
+    let mut store = zeros();
+    let mut buffer = no_session();
+    let mut text = io::large_buffer();
+    let cells = cells_of(file);
+    let answer = answered(
+        command,
+        file,
+        session,
+        &mut store[..cells],
+        &mut buffer,
+        &mut text,
+    );
+    finish(name, answer, &buffer, &text);
+}
+
+fn start(up: bool, file: &[u8], name: &[u8]) {
+    let store = zeros();
+    let mut buffer = no_session();
+    let mut text = io::large_buffer();
+    let cells = cells_of(file);
+    let answer = started(file, up, &store[..cells], &mut buffer, &mut text);
+    finish(name, answer, &buffer, &text);
+}
+
+fn with_session(command: Command, file: &[u8], name: &[u8]) {
+    let mut session = no_session();
+    match files::read_named(name, &mut session) {
+        Got::Failed(error) => {
+            complain(name, error);
+        }
+        Got::All(n) => {
+            on_session(command, file, name, &session[..n]);
+        }
+    }
+}
+
+// `start` does not read the session.
+fn on_name(command: Command, file: &[u8], name: &[u8]) {
+    match command {
+        Command::Start(up) => {
+            start(up, file, name);
+        }
+        _ => {
+            with_session(command, file, name);
+        }
+    }
+}
+
+fn on_file(command: Command, file: &[u8]) {
+    match command {
+        Command::Check => {
+            check(file);
+        }
+        _ => {
+            let mut name = no_name();
+            let n = os::arg(3, &mut name);
+            on_name(command, file, &name[..n]);
+        }
+    }
+}
+
+fn with_file(command: Command, name: &[u8]) {
+    let mut file = no_file();
+    match files::read_named(name, &mut file) {
+        Got::Failed(error) => {
+            complain(name, error);
+        }
+        Got::All(n) => {
+            on_file(command, &file[..n]);
+        }
+    }
+}
+
+pub fn perform(command: Command) {
+    match command {
+        Command::Wrong => {
+            usage();
+        }
+        _ => {
+            let mut name = no_name();
+            let n = os::arg(2, &mut name);
+            with_file(command, &name[..n]);
+        }
+    }
+}

@@ -1,0 +1,53 @@
+-- `files::name_beside` meets its contract: a piece that does not fit is left out. Assumes nothing.
+use mathlib.Core.Path.{_≡_, refl}
+use mathlib.Core.Bool.{Bool, true, false, cond}
+use mathlib.Core.List.{List, [], _∷_}
+use Prim.Native.Nat.{ℕ, _+_, _≤_}
+use native.Mathlib.Omega.{arith}
+use lib.Dec.{leb}
+use lib.ListN.{length}
+use denote.Ref.{now}
+use borrow.Author.Needs.{needs}
+use borrow.Author.Tests.{leb-true}
+use Rattle.words.specs.Words.{after, decimal}
+use Rattle.files.proofs.name_beside.Statement.{statement}
+use Rattle.files.proofs.name_beside.Tie as tie
+
+within : (b w : List ℕ) (at : ℕ) → at ≤ length b → after b at w ≤ length b
+within b w at h = go (leb (at + length w) (length b)) refl
+  where
+    go : (t : Bool) → leb (at + length w) (length b) ≡ t → cond t (at + length w) at ≤ length b
+    go true e = leb-true (at + length w) (length b) e
+    go false e = h
+
+least : (n : ℕ) → 0 ≤ n
+least n = omega arith
+
+-- a position within the buffer before a piece, and after it
+step : (b c w : List ℕ) (at r : ℕ) → at ≤ length b → r ≡ after b at w → length c ≡ length b → r ≤ length c
+step b c w at r h e k = rw (k, e) (within b w at h)
+
+returns : tie.Need-returns
+returns c =
+    let k3 = c .before .before in
+    let k2 = k3 .before .before .before .before .before .before in
+    let k1 = k2 .before .before .before .before .before in
+    let s = k1 .before .before .before .before in
+    let b1 = k1 .put-bytes .last .0 in
+    let b2 = k2 .put-bytes2 .last .0 in
+    let h1 = step (now (s .args .beside)) b1 (now (s .args .name)) 0 _ (least _) (k1 .put-bytes .ensures .0) (k1 .put-bytes .kept .0) in
+    let h2 = step b1 b2 (46 ∷ 110 ∷ 101 ∷ 119 ∷ []) _ _ h1 (k2 .put-bytes2 .ensures .0) (k2 .put-bytes2 .kept .0) in
+    step b2 (k3 .put-decimal .last .0) (decimal (k3 .before .natural .result)) _ _ h2 (k3 .put-decimal .ensures .0) (k3 .put-decimal .kept .0)
+
+pub name-beside-spec : {M : Type 1} → statement M
+name-beside-spec =
+    tie.close
+    (tie.spec
+    (λ c κs. search needs)
+    (λ c. search needs)
+    (λ c κs. search needs)
+    (λ c κs. search needs)
+    (λ c κs. search needs)
+    (λ c κs. search needs)
+    (λ c. search needs)
+    returns)

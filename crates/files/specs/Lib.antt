@@ -1,0 +1,2 @@
+-- The definitions of `files`.
+pub mod Got

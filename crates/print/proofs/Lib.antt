@@ -1,0 +1,2 @@
+-- The laws of `print`.
+pub mod Rows

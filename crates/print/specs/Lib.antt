@@ -1,0 +1,2 @@
+-- The definitions of `print`.
+pub mod Lines

@@ -1,0 +1,2 @@
+-- The laws of `run`.
+pub mod Running

@@ -1,0 +1,92 @@
+-- An accepted file's run, as the machine answers it, is reported in the document's lines.
+--     few       so many cells have room
+--     zeros     the first of many zeros are zeros
+--     reports   the machine's answers, printed, are what `run` prints
+use Prim.Native.Nat.{ℕ, zero, suc, _≤_}
+use mathlib.Core.Path.{_≡_, refl, sym, ap, ap₂, _∙_, subst}
+use mathlib.Core.List.{List, _∷_}
+use native.Mathlib.Omega.{arith}
+use lib.IntN.{ℤ, pos}
+use lib.ListN.{length, take, replicate}
+use Rattle.codes.specs.Codes.{AllBytes}
+use Rattle.place.specs.declared.Place.{Place as Held}
+use Rattle.place.specs.Slots.{held}
+use Rattle.order.specs.Trees.{Tree, cells}
+use Rattle.program.specs.Says.{given, Accepts, Says}
+use Rattle.program.specs.declared.Checked.{Checked}
+use Rattle.program.specs.declared.Checked.the-variants.{Accepted, Refused as RefusedFile}
+use Rattle.program.proofs.CheckSays.{TreeOf, accepted-of, refused-of}
+use Rattle.program.proofs.Few.{cells-few}
+use Rattle.moves.specs.Places.{down}
+use Rattle.moves.specs.Stores.{Store}
+use Rattle.moves.specs.Step.{start}
+use Rattle.moves.specs.Runs.{run as running, Stop, made, because, stopNumber}
+use Rattle.moves.specs.Runs as runs
+use Rattle.moves.proofs.Theorems.{start-fits}
+use Rattle.machine.specs.declared.Told.{Told}
+use Rattle.machine.specs.declared.Told.the-variants.{Done}
+use Rattle.machine.specs.Answers.{RunSays, ran, StartSays, started, toldOf}
+use Rattle.machine.proofs.OneAnswer.{run-one, start-one}
+use Rattle.print.specs.Lines.{putAll, afterAll, refusedLine}
+use Rattle.print.proofs.Rows.{within}
+use Rattle.run.specs.Report.{noughts, length-noughts, reportLines, ranLines, Prints, Reports, Counted, reasonOf}
+use Rattle.run.specs.Report as report
+
+first-zeros : (n m : ℕ) → n ≤ m → take n (replicate m (pos 0)) ≡ replicate n (pos 0)
+first-zeros zero m h = refl
+first-zeros (suc n) zero h = absurd (omega arith)
+first-zeros (suc n) (suc m) h = ap (_∷_ (pos 0)) (first-zeros n m (omega arith))
+
+pub zeros : (n m : ℕ) → n ≤ m → take n (noughts m) ≡ noughts n
+unfolding noughts
+zeros n m h = first-zeros n m h
+
+reason-is : (s : Stop) → reasonOf (toldOf s) ≡ stopNumber s
+reason-is made = refl
+reason-is (because r) = refl
+
+-- what is printed of a run's answer
+abbrev said : Told → ℕ → Held → Store → List (List ℕ)
+said told steps q σ = reportLines steps (reasonOf told) (q .a) (q .b) (q .direction) σ
+
+on-zeros : {f : List ℕ} {t : Tree} {n : ℕ} → Accepts f t → n ≡ cells t → Prints f (ranLines (running t 1000000 (start t down) (noughts n)))
+on-zeros A e = rw e (report.ran A)
+
+is-start : {f : List ℕ} {t : Tree} → Accepts f t → StartSays f down Done (held (start t down))
+is-start A = started A refl refl
+
+module _ (f : List ℕ) (B : AllBytes f) (n : ℕ) (C : Counted f n) where
+  tree : TreeOf f (C .0) (C .1) n
+  tree = accepted-of f (Accepted (C .0) (C .1) n) (C .0) (C .1) n (C .2) refl
+
+  pub few : n ≤ 2048
+  few = omega (arith, tree .cells-are′, cells-few (tree .accepts))
+
+  pub reports :
+      (b c : List ℕ) (r : ℕ) (σ₀ : Store) (told₀ : Told) (q : Held) (told : Told) (steps : ℕ) (q′ : Held) (σ′ : Store) → σ₀ ≡ noughts n → StartSays f down told₀ q
+      → RunSays running f q σ₀ 1000000 told steps q′ σ′ → r ≡ afterAll b 0 (said told steps q′ σ′) → c ≡ putAll b 0 (said told steps q′ σ′) → Reports f b c r
+  reports b c r σ₀ told₀ q told steps q′ σ′ e₀ s u er ec =
+      let t = tree .tree in
+      let A = tree .accepts in
+      let σ = noughts n in
+      let x = running t 1000000 (start t down) σ in
+      let e : q ≡ held (start t down) = start-one B s (is-start A) .1 in
+      let y : RunSays running f q σ 1000000 (toldOf (x .stop)) (x .steps) (held (x .place)) (x .store) =
+      ran (record { accepts = A; sized = length-noughts n ∙ tree .cells-are′; holds = e; fits = start-fits A down }) refl refl refl refl in
+      let z = run-one B running 1000000 (rw e₀ at u) y in
+      let l : said told steps q′ σ′ ≡ ranLines x = rw (z .0, z .1, z .2, z .3, reason-is (x .stop)) in
+      record {
+        lines = ranLines x;
+        prints = on-zeros A (tree .cells-are′);
+        position = er ∙ ap (afterAll b 0) l;
+        text = ec ∙ ap (putAll b 0) l;
+      }
+
+-- A refused file's line.
+pub refusal :
+    (f : List ℕ) (a : Checked) → Says f (given a) → (b c : List ℕ) (r n k : ℕ) → a ≡ RefusedFile n k → (r ≡ afterAll b 0 (refusedLine n k)) × (c ≡ putAll b 0 (refusedLine n k)) → Reports f b c r
+refusal f a s b c r n k e h = record { lines = refusedLine n k; prints = report.refused (refused-of f a n k s e); position = h .0; text = h .1 }
+
+-- What is reported lies within the buffer.
+pub reported : (f b c : List ℕ) (r : ℕ) → Reports f b c r → r ≤ length b
+reported f b c r h = rw (h .position) (within b 0 (h .lines) (omega arith))

@@ -1,0 +1,12 @@
+-- `run::zeros` meets its contract. Assumes nothing.
+use mathlib.Core.Path.{refl}
+use Rattle.run.specs.Report.{noughts}
+use Rattle.run.proofs.zeros.Statement.{statement}
+use Rattle.run.proofs.zeros.Tie as tie
+
+returns : tie.Need-returns
+unfolding noughts
+returns c = refl
+
+pub zeros-spec : {M : Type 1} → statement M
+zeros-spec = tie.close (tie.spec returns)

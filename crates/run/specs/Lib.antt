@@ -1,0 +1,2 @@
+-- The definitions of `run`.
+pub mod Report

@@ -1,0 +1,57 @@
+-- What the program `run` prints, in document 01's words.
+use Prim.Native.Nat.{ℕ}
+use mathlib.Core.Path.{_≡_}
+use mathlib.Core.List.{List, _++_}
+use lib.IntN.{ℤ, pos}
+use lib.ListN.{length, replicate, length-replicate}
+use Rattle.place.specs.Slots.{dirNumber}
+use Rattle.order.specs.Trees.{Tree, cells}
+use Rattle.program.specs.Says.{fault, counts, Accepts, Says}
+use Rattle.moves.specs.Places.{down}
+use Rattle.moves.specs.Step.{start}
+use Rattle.moves.specs.Runs.{Ran, run, stopNumber}
+use Rattle.machine.specs.declared.Told.{Told}
+use Rattle.machine.specs.declared.Told.the-variants.{Done, Refused}
+use Rattle.print.specs.Lines.{putAll, afterAll, refusedLine, stepsLine, atLine, cellLines}
+
+-- So many zeros, under a name that stays shut.
+unfoldable pub noughts : ℕ → List ℤ
+noughts n = replicate n (pos 0)
+
+-- "Its first line is steps made and reason; the second a, b and direction; then each nonzero cell, number and value, ascending."
+unfoldable pub reportLines : ℕ → ℕ → ℕ → ℕ → ℕ → List ℤ → List (List ℕ)
+reportLines steps reason a b d store = stepsLine steps reason ++ (atLine a b d ++ cellLines 0 store)
+
+abbrev pub ranLines : Ran → List (List ℕ)
+ranLines r = reportLines (r .steps) (stopNumber (r .stop)) (r .place .a) (r .place .b) (dirNumber (r .place .d)) (r .store)
+
+-- "reads a program file .., starts down on zeros and runs at most 1,000,000 steps"; "A refused file prints only `refused N record R`."
+pub data Prints (f : List ℕ) : List (List ℕ) → Type 0 where
+  refused : {n k : ℕ} → Says f (fault n k) → Prints f (refusedLine n k)
+  ran : {t : Tree} → Accepts f t → Prints f (ranLines (run t 1000000 (start t down) (noughts (cells t))))
+
+-- The text that it prints: the lines, from the start of the buffer b, which is c afterwards; r is the position after them.
+pub record Reports (f b c : List ℕ) (r : ℕ) : Type 0 where
+  pub lines : List (List ℕ)
+  pub prints : Prints f lines
+  pub position : r ≡ afterAll b 0 lines
+  pub text : c ≡ putAll b 0 lines
+
+-- ---- what the inner functions go by
+
+pub length-noughts : (n : ℕ) → length (noughts n) ≡ n
+unfolding noughts
+length-noughts n = length-replicate n (pos 0)
+
+-- the file is accepted with so many cells
+abbrev pub Counted : List ℕ → ℕ → Type 0
+Counted f cells = (r : ℕ) × (p : ℕ) × Says f (counts r p cells)
+
+-- and the store has so many zeros
+abbrev pub Zeroed : List ℕ → List ℤ → Type 0
+Zeroed f σ = (n : ℕ) × (σ ≡ noughts n) × Counted f n
+
+-- the number of the reason, 0 where there is none
+abbrev pub reasonOf : Told → ℕ
+reasonOf Done = 0
+reasonOf (Refused n k) = n
