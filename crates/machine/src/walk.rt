@@ -6,6 +6,7 @@ use place::top_of;
 ghost use mathlib.Core.Path.{_≡_};
 ghost use Prim.Native.Nat.{_≤_};
 ghost use Rattle.machine.specs.Decide.{ruleOf};
+ghost use Rattle.machine.specs.Gates.{Gated};
 ghost use Rattle.machine.specs.Walk.{putIn, callsIn, callsOf, spotIn, endedIn, goOf, Goes};
 
 // How far it went: why it stopped (0: all steps were made), how many were made, and where it is.
@@ -104,12 +105,16 @@ fn spot(
 pub fn go(
     file: &[u8],
     table: &[u16; 9344],
+    downs: &[u16; 2048],
+    ups: &[u16; 2048],
     arrays: &[u16; 32],
     store: &mut [i32],
     place: Place,
     calls: u16,
     n: u32,
 ) -> Went
+    requires { ⌜ Gated (now file) (now table) 0 (now downs) ⌝ }
+    requires { ⌜ Gated (now file) (now table) 1 (now ups) ⌝ }
     ensures { λ r. ⌜ Goes (goOf (ruleOf (now (file .entry)) (now (table .entry)) (now (arrays .entry))) n place calls (now (store .entry)) 0) r (now (store .exit)) ⌝ }
 {
     let mut kinds = place.kinds;
@@ -122,7 +127,7 @@ pub fn go(
     let mut made: u32 = 0;
     while made < n {
         let s = spot(direction, b, deep, count, &kinds, &labels);
-        let m = decide(s, file, table, arrays, store);
+        let m = decide(s, file, table, downs, ups, arrays, store);
         if m.reason != 0 {
             return ended(m.reason, made, direction, a, b, count, kinds, labels);
         }

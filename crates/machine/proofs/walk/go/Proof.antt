@@ -18,13 +18,13 @@ use Rattle.machine.proofs.walk.put.Reads as put-reads
 use Rattle.machine.proofs.walk.spot.Reads as spot-reads
 
 abbrev Inv-loop : tie.InvT-loop
-Inv-loop file table arrays store₀ calls n kinds₀ labels₀ direction₀ a₀ b₀ count₀ deep₀ made₀ store kinds labels direction a b count deep made =
+Inv-loop file table downs ups arrays store₀ calls n kinds₀ labels₀ direction₀ a₀ b₀ count₀ deep₀ made₀ store kinds labels direction a b count deep made =
     (made ≤ n) × (length store ≡ length store₀)
     × (goOf (ruleOf file table arrays) n (record { direction = direction₀; a = a₀; b = b₀; count = count₀; kinds = kinds₀; labels = labels₀ }) calls store₀ 0
     ≡ goOf (ruleOf file table arrays) (n - made) (record { direction = direction; a = a; b = b; count = count; kinds = kinds; labels = labels }) deep store made)
 
 abbrev μ-loop : tie.MeasureT-loop
-μ-loop file table arrays store₀ calls n kinds₀ labels₀ direction₀ a₀ b₀ count₀ deep₀ made₀ store kinds labels direction a b count deep made =
+μ-loop file table downs ups arrays store₀ calls n kinds₀ labels₀ direction₀ a₀ b₀ count₀ deep₀ made₀ store kinds labels direction a b count deep made =
     n - made
 
 abbrev Known : Type 0
@@ -46,8 +46,8 @@ started k = looped k .before .before .before .before
 abbrev held : Looped → Held
 held l = record { direction = l .loop .direction; a = l .loop .a; b = l .loop .b; count = l .loop .count; kinds = l .loop .kinds; labels = l .loop .labels }
 
-same : (k : Known) → length (k .before .before .decide .last .1 .1 .1 .1 .0) ≡ length (started k .args .store .now)
-same k = k .before .before .decide .kept .1 .1 .1 .1 .0 ∙ looped k .loop .inv .1
+same : (k : Known) → length (k .before .before .decide .last .1 .1 .1 .1 .1 .1 .0) ≡ length (started k .args .store .now)
+same k = k .before .before .decide .kept .1 .1 .1 .1 .1 .1 .0 ∙ looped k .loop .inv .1
 
 pub go-spec : {M : Type 1} → statement M
 go-spec =
@@ -60,7 +60,7 @@ go-spec =
     (λ c κs. search needs)
     (λ c κs. search needs)
     (λ c. same (c .before .before))
-    (λ c. let k = c .before .before in goes-refused (started k .args .file .now) (started k .args .table .now) (started k .args .arrays .now) (started k .args .n) (started k .args .place) (started k .args .calls) (started k .args .store .now) (looped k .loop .made) (held (looped k)) (looped k .loop .deep) (looped k .loop .store) (looped k .loop .inv .2) (k .before .before .before .before .spot .result) (k .before .before .before .before .spot .ensures) (k .before .before .decide .result) (k .before .before .decide .last .1 .1 .1 .1 .0) (k .before .before .decide .ensures) (in-turn k .loop-test .taken) _ (c .before .if1 .taken) (c .ended .ensures))
+    (λ c. let k = c .before .before in goes-refused (started k .args .file .now) (started k .args .table .now) (started k .args .arrays .now) (started k .args .n) (started k .args .place) (started k .args .calls) (started k .args .store .now) (looped k .loop .made) (held (looped k)) (looped k .loop .deep) (looped k .loop .store) (looped k .loop .inv .2) (k .before .before .before .before .spot .result) (k .before .before .before .before .spot .ensures) (k .before .before .decide .result) (k .before .before .decide .last .1 .1 .1 .1 .1 .1 .0) (k .before .before .decide .ensures) (in-turn k .loop-test .taken) _ (c .before .if1 .taken) (c .ended .ensures))
     (λ c. omega (arith, in-turn (c .before) .loop-test .taken, started (c .before) .fits .n))
     (λ c κs. search needs)
     (λ c κs. search needs)
@@ -68,7 +68,7 @@ go-spec =
     (λ c. let e = c .before .before .before .before in let k = e .before in (
       omega (arith, in-turn k .loop-test .taken),
       same k,
-      goes-on (started k .args .file .now) (started k .args .table .now) (started k .args .arrays .now) (started k .args .n) (started k .args .place) (started k .args .calls) (started k .args .store .now) (looped k .loop .made) (held (looped k)) (looped k .loop .deep) (looped k .loop .store) (looped k .loop .inv .2) (k .before .before .before .before .spot .result) (k .before .before .before .before .spot .ensures) (k .before .before .decide .result) (k .before .before .decide .last .1 .1 .1 .1 .0) (k .before .before .decide .ensures) (in-turn k .loop-test .taken) (e .if1 .left) _ _ (c .before .before .put .ensures) (c .put2 .ensures),
+      goes-on (started k .args .file .now) (started k .args .table .now) (started k .args .arrays .now) (started k .args .n) (started k .args .place) (started k .args .calls) (started k .args .store .now) (looped k .loop .made) (held (looped k)) (looped k .loop .deep) (looped k .loop .store) (looped k .loop .inv .2) (k .before .before .before .before .spot .result) (k .before .before .before .before .spot .ensures) (k .before .before .decide .result) (k .before .before .decide .last .1 .1 .1 .1 .1 .1 .0) (k .before .before .decide .ensures) (in-turn k .loop-test .taken) (e .if1 .left) _ _ (c .before .before .put .ensures) (c .put2 .ensures),
     ))
     (λ c κs. search needs)
     (λ c. c .before .before .loop .inv .1)
