@@ -20,7 +20,7 @@ use Rattle.values.proofs.Bits.{wide-fits, wide-is}
 use Rattle.values.proofs.Laws.{apply-fits}
 use Rattle.expr.specs.Tree.{Fault, byZero, badIndex, Worth, value, stop, worthOf, both, element, indexed, eval}
 use Rattle.expr.specs.Bytes.{Got, nothing, parse}
-use Rattle.expr.specs.Answers.{packedWorth, unpacked, InCell, Packs, movedTo, arraysOf, worthAt, readAt, WorthSays, OnTheWay}
+use Rattle.expr.specs.Answers.{packedWorth, unpacked, InCell, Packs, movedTo, arraysOf, worthAt, readAt, WorthSays, OnTheWay, Tried}
 use Rattle.expr.proofs.Agree.{worth-fits}
 use Rattle.expr.proofs.Layer.{parse-none, parse-out, parse-con, parse-var, parse-read, parse-bin}
 
@@ -216,6 +216,44 @@ module _ (A : List ℕ) (C : List ℤ) (s : List ℕ) (left at : ℕ) where
             })
 
 pub ruleset evaluations = (value-none, value-out, value-con, value-var, value-read, left-stop, right-stop, value-bin)
+
+-- ---- the short ways
+pub tried : (w : Worth) (next : ℕ) (r : ℤ) (after : ℕ) → OnTheWay w next r after → Tried w next r after
+tried w next r after o = record { told = λ k. o }
+
+pub untold : (w : Worth) (next after : ℕ) → Tried w next (pos 4294967296) after
+untold w next after = record { told = λ k. absurd (k refl) }
+
+-- a value is told
+sure : (r : ℤ) → ltZ (pos 2147483647) (again64 r) ≡ false → ofZ w64 r ≡ 4294967296 → ⊥
+sure r t e = true≢false (rw e at t)
+
+module _ (A : List ℕ) (C : List ℤ) (s : List ℕ) (left at : ℕ) (nz : left ≡ 0 → ⊥) (h : at < length s) (tag : ℕ) (tg : tag ≡ getD s at 0)
+    (n0 : tag ≡ 0 → ⊥) (n1 : tag ≡ 1 → ⊥) (n2 : tag ≡ 2 → ⊥) (l : ℤ) (mid : ℕ)
+    (lo : Tried (worthAt A C (parse (left - 1) s (at + 2))) (parse (left - 1) s (at + 2) .next) l mid) (fl : SFits w64 l)
+    (tl : ltZ (pos 2147483647) (again64 l) ≡ false) (r : ℤ) (after : ℕ)
+    (ro : Tried (worthAt A C (parse (left - 1) s mid)) (parse (left - 1) s mid .next) r after) (fr : SFits w64 r) where
+  pub leaf-bin : (v : ℤ) (o : ℕ) → ltZ (pos 2147483647) (again64 r) ≡ false → SFits w64 v → v ≡ packed (applyOp o (again (again64 l)) (again (again64 r)))
+      → o ≡ getD s (at + 1) 0 → Tried (worthAt A C (parse left s at)) (parse left s at .next) (again64 v) after
+  leaf-bin v o t fv p oo =
+      tried _ _ _ _ (value-bin A C s left at nz h tag tg n0 n1 n2 l mid (lo .told (sure l tl)) fl tl r after (ro .told (sure r t)) fr v o t fv p oo)
+
+pub ruleset leaves = (untold, leaf-bin, tried, value-none, value-out, value-con, value-var)
+
+pub leaf-narrow : (r : ℤ) → SFits w64 r → (w : Worth) (next after : ℕ) → Tried w next r after → ltZ (pos 2147483647) (again64 r) ≡ false → SFits w32 (again64 r)
+leaf-narrow r f w next after o t = narrow r f w next after (o .told (sure r t)) t
+
+pub ruleset leafcasts = (widened, leaf-narrow)
+
+-- the short way's answer where it tells, or the evaluator's
+pub operand-told : (w : Worth) (next : ℕ) (r : ℤ) (after : ℕ) → SFits w64 r → Tried w next r after → (ofZ w64 r ≡ 4294967296 → ⊥)
+    → OnTheWay w next (again64 r) after
+operand-told w next r after f o k = way-on w next r after f (o .told k)
+
+pub operand-on : (w : Worth) (next : ℕ) (r : ℤ) (after : ℕ) → SFits w64 r → OnTheWay w next r after → OnTheWay w next (again64 r) after
+operand-on w next r after f o = way-on w next r after f o
+
+pub ruleset operands = (operand-told, operand-on)
 
 -- ---- the whole: a refusal puts the position back
 module _ (A : List ℕ) (C : List ℤ) (g : Got) (r : ℤ) (after : ℕ) (o : OnTheWay (worthAt A C g) (g .next) r after) (f : SFits w64 r) where

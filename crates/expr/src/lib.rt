@@ -10,7 +10,7 @@ ghost use lib.ListN.{getD, length};
 ghost use Rattle.codes.specs.Codes.{word16};
 ghost use Rattle.expr.specs.Tree.{element, isScalar, isArray};
 ghost use Rattle.expr.specs.Bytes.{parse, whole};
-ghost use Rattle.expr.specs.Answers.{endOf, Packs, arraysOf, worthAt, readAt, WorthSays, OnTheWay, nameOf, seenOf, knownOf};
+ghost use Rattle.expr.specs.Answers.{endOf, Packs, arraysOf, worthAt, readAt, WorthSays, OnTheWay, Tried, nameOf, seenOf, knownOf};
 
 pub enum End {
     At(usize),
@@ -67,6 +67,9 @@ const MOST: i64 = 2147483647;
 
 const BAD_INDEX: i64 = 4294967329;
 
+// No answer, but that the short ways below do not answer: 2^32.
+const OTHER: i64 = 4294967296;
+
 // The cell i, 0 past the end.
 fn cell(cells: &[i32], i: usize) -> i32
     ensures { λ r. ⌜ r ≡ getD (now (cells .entry)) i (pos 0) ⌝ }
@@ -95,6 +98,66 @@ fn element_at(cells: &[i32], arrays: &[u16; 32], a: usize, index: i32) -> i64
     BAD_INDEX
 }
 
+// The same as `value_at` for a constant or a scalar, without a call of its own; else OTHER.
+fn simple(s: &[u8], at: &mut usize, left: usize, cells: &[i32], arrays: &[u16; 32]) -> i64
+    ensures { λ r. ⌜ Tried (worthAt (now (arrays .entry)) (now (cells .entry)) (parse left (now (s .entry)) (now (at .entry)))) (parse left (now (s .entry)) (now (at .entry)) .next) r (now (at .exit)) ⌝ }
+{
+    let p = *at;
+    if left == 0 {
+        return 0;
+    }
+    if s.len() <= p {
+        return 0;
+    }
+    let tag = byte(s, p);
+    if tag == 0 {
+        *at = p + 5;
+        return long(s, p + 1) as i64;
+    }
+    if tag == 1 {
+        *at = p + 3;
+        return cell(cells, short(s, p + 1)) as i64;
+    }
+    OTHER
+}
+
+// The same for those and for an operator on two of them; else OTHER, and `*at` anywhere. It hands its slices to no call,
+// so that none is put in memory: that is what makes most evaluations fast.
+fn leaf(s: &[u8], at: &mut usize, left: usize, cells: &[i32], arrays: &[u16; 32]) -> i64
+    ensures { λ r. ⌜ Tried (worthAt (now (arrays .entry)) (now (cells .entry)) (parse left (now (s .entry)) (now (at .entry)))) (parse left (now (s .entry)) (now (at .entry)) .next) r (now (at .exit)) ⌝ }
+{
+    let p = *at;
+    if left == 0 {
+        return 0;
+    }
+    if s.len() <= p {
+        return 0;
+    }
+    let tag = byte(s, p);
+    if tag == 0 {
+        *at = p + 5;
+        return long(s, p + 1) as i64;
+    }
+    if tag == 1 {
+        *at = p + 3;
+        return cell(cells, short(s, p + 1)) as i64;
+    }
+    if tag == 2 {
+        return OTHER;
+    }
+    let operator = byte(s, p + 1) as u8;
+    *at = p + 2;
+    let l = simple(s, at, left - 1, cells, arrays);
+    if l > MOST {
+        return OTHER;
+    }
+    let r = simple(s, at, left - 1, cells, arrays);
+    if r > MOST {
+        return OTHER;
+    }
+    values::apply(operator, l as i32, r as i32)
+}
+
 // What the expression at `*at`, at most `left` deep, is worth; where that is a value, `*at` is moved behind it.
 fn value_at(s: &[u8], at: &mut usize, left: usize, cells: &[i32], arrays: &[u16; 32]) -> i64
     ensures { λ r. ⌜ OnTheWay (worthAt (now (arrays .entry)) (now (cells .entry)) (parse left (now (s .entry)) (now (at .entry)))) (parse left (now (s .entry)) (now (at .entry)) .next) r (now (at .exit)) ⌝ }
@@ -120,20 +183,33 @@ fn value_at(s: &[u8], at: &mut usize, left: usize, cells: &[i32], arrays: &[u16;
     }
     let operator = byte(s, p + 1) as u8;
     *at = p + 2;
-    let l = value_at(s, at, left - 1, cells, arrays);
+    let l = operand(s, at, left - 1, cells, arrays);
     if l > MOST {
         return l;
     }
-    let r = value_at(s, at, left - 1, cells, arrays);
+    let r = operand(s, at, left - 1, cells, arrays);
     if r > MOST {
         return r;
     }
     values::apply(operator, l as i32, r as i32)
 }
 
+// The same, the short way first.
+fn operand(s: &[u8], at: &mut usize, left: usize, cells: &[i32], arrays: &[u16; 32]) -> i64
+    ensures { λ r. ⌜ OnTheWay (worthAt (now (arrays .entry)) (now (cells .entry)) (parse left (now (s .entry)) (now (at .entry)))) (parse left (now (s .entry)) (now (at .entry)) .next) r (now (at .exit)) ⌝ }
+{
+    let p = *at;
+    let q = leaf(s, at, left, cells, arrays);
+    if q != OTHER {
+        return q;
+    }
+    *at = p;
+    value_at(s, at, left, cells, arrays)
+}
+
 // What the array read at `*at` is worth: its number stands behind the first byte, then its index, at most `left` deep.
-// Evaluator and array read call each other. `value_at` lowers the depth left by 1, `read_at` passes its own on:
-// what falls at every call is 2n for `value_at` and 2n + 1 for `read_at`.
+// Evaluator and array read call each other. `value_at` lowers the depth left by 1, `operand` and `read_at` pass their own on:
+// what falls at every call is 3n for `value_at`, 3n + 1 for `operand` and 3n + 2 for `read_at`.
 fn read_at(s: &[u8], at: &mut usize, left: usize, cells: &[i32], arrays: &[u16; 32]) -> i64
     requires { ⌜ now at < length (now s) ⌝ }
     ensures { λ r. ⌜ OnTheWay (readAt (now (arrays .entry)) (now (cells .entry)) (word16 (now (s .entry)) (now (at .entry) + 1)) (parse left (now (s .entry)) (now (at .entry) + 3))) (parse left (now (s .entry)) (now (at .entry) + 3) .next) r (now (at .exit)) ⌝ }
@@ -141,7 +217,7 @@ fn read_at(s: &[u8], at: &mut usize, left: usize, cells: &[i32], arrays: &[u16; 
     let p = *at;
     let a = short(s, p + 1);
     *at = p + 3;
-    let i = value_at(s, at, left, cells, arrays);
+    let i = operand(s, at, left, cells, arrays);
     if i > MOST {
         return i;
     }
@@ -153,7 +229,7 @@ pub fn worth(s: &[u8], at: &mut usize, cells: &[i32], arrays: &[u16; 32]) -> i64
     ensures { λ r. ⌜ WorthSays (now (arrays .entry)) (now (cells .entry)) (now (at .entry)) (parse 16 (now (s .entry)) (now (at .entry))) r (now (at .exit)) ⌝ }
 {
     let start = *at;
-    let r = value_at(s, at, 16, cells, arrays);
+    let r = operand(s, at, 16, cells, arrays);
     if r > MOST {
         *at = start;
     }

@@ -29,7 +29,7 @@ use Rattle.moves.proofs.Follow.{and-true}
 use Rattle.table.proofs.Tabled.{Tabled}
 use Rattle.machine.specs.declared.decide.Spot.{Spot}
 use Rattle.machine.specs.declared.decide.Move.{Move}
-use Rattle.machine.specs.Decide.{lookIn, moreOf, otherOf, alongOf, gateOf, resumedOf, refusedOf, enteredOf, returnedOf, moving, ruled, ruleOf}
+use Rattle.machine.specs.Decide.{lookIn, moreOf, otherOf, alongOf, gateOf, resumedOf, refusedOf, enteredTo, enteredOf, returnedOf, moving, ruled, ruleOf}
 use Rattle.machine.proofs.DecideCases.{rule-call, rule-uncall, rule-return}
 use Rattle.machine.proofs.Room.{encl-room, stack-room, room}
 use Rattle.machine.proofs.Labels.{getD-any, small, inside, near}
@@ -130,7 +130,7 @@ module _ {f : List ℕ} {t : Tree} (A : Accepts f t) {tab : List ℕ} (T : Table
     S = spotAt (frames g cs) d cs (met g d)
 
     pub enter-fate : Fate P (frames g cs) σ (ruled (enteredOf S q (dirNumber d′) tab) σ) (cond (ltb (length cs) 64) (ok (leave (gateL P q d′) d′ (met g d ∷ cs), σ)) (no tooDeep))
-    unfolding enteredOf
+    unfolding enteredOf enteredTo
     enter-fate = go (ltb (length cs) 64) refl
       where
         deep : length cs < 64 → Move

@@ -18,7 +18,8 @@ use Rattle.expr.specs.Answers.{worthAt, WorthSays, faultNumber}
 use Rattle.records.specs.Faults.{word}
 use Rattle.moves.specs.Stores.{Answer, ok, no, number, reasonOf, Store}
 use Rattle.machine.specs.Sets.{faultOf, Leaves, setAt}
-use Rattle.machine.specs.Decide.{lookIn, moreOf, otherOf, alongOf, truthOf, refusedOf, keptOf, pushedOf, poppedOf, changedOf, headIn, middleIn, tailIn, chosenOf, closedOf, againOf, openedOf, repeatedOf, gateOf, enteredOf, resumedOf, returnedOf, testedOf, assignedOf, moving, afterSet, Rules, ruleOf}
+use Rattle.machine.specs.Decide.{lookIn, moreOf, otherOf, alongOf, truthOf, refusedOf, keptOf, pushedOf, poppedOf, changedOf, headIn, middleIn, tailIn, chosenOf, closedOf, againOf, openedOf, repeatedOf, gateOf, enteredTo, enteredOf, resumedOf, returnedOf, testedOf, assignedOf, moving, afterSet, Rules, ruleOf}
+use Rattle.machine.specs.Gates.{procAt}
 use Rattle.machine.specs.declared.decide.Spot.{Spot}
 use Rattle.machine.specs.declared.decide.Move.{Move}
 use Rattle.machine.proofs.SetCases.{is-stop, is-value}
@@ -188,17 +189,16 @@ again-no s h e = rw (ne-eqb (s .kind) 3 e)
 
 pub ruleset acts = (chosen-else, chosen-else-up, chosen-then, chosen-then-up, closed-0-0, closed-0-1, closed-1-0, closed-1-1, opened-again, opened-wrong, opened-false, opened-true, repeated-false, repeated-true, again-yes, again-no)
 
+module _ (s : Spot) (a b d : ℕ) where
+  pub entered-no : (m : Move) → 64 ≤ s .calls → m ≡ refusedOf s 34 → m ≡ enteredTo s a b d
+  unfolding enteredTo
+  entered-no m h e = rw (le-leb 64 (s .calls) h) e
+
+  pub entered-yes : (n : ℕ) → s .calls < 64 → n ≡ moreOf (s .count) → moving 0 d a b (s .calls + 1) n (s .count) 4 (s .b) ≡ enteredTo s a b d
+  unfolding enteredTo
+  entered-yes n h nn = rw (lt-leb 64 (s .calls) h, nn)
+
 module _ (s : Spot) (tab : List ℕ) where
-  module _ (q d : ℕ) where
-    pub entered-no : (m : Move) → 64 ≤ s .calls → m ≡ refusedOf s 34 → m ≡ enteredOf s q d tab
-    unfolding enteredOf
-    entered-no m h e = rw (le-leb 64 (s .calls) h) e
-
-    pub entered-yes : (a b n : ℕ) → s .calls < 64 → b ≡ alongOf tab d a → a ≡ gateOf tab q d → n ≡ moreOf (s .count)
-        → moving 0 d a b (s .calls + 1) n (s .count) 4 (s .b) ≡ enteredOf s q d tab
-    unfolding enteredOf
-    entered-yes a b n h bb aa nn = rw (lt-leb 64 (s .calls) h, ← aa, ← bb, nn)
-
   pub returned-no : (m : Move) → s .calls ≡ 0 → m ≡ refusedOf s 30 → m ≡ returnedOf s tab
   unfolding returnedOf
   returned-no m h e = rw (eq-eqb (s .calls) 0 h) e
@@ -284,10 +284,16 @@ module _ (f tab arr : List ℕ) (s : Spot) (σ : Store) (k at : ℕ) (kk : k ≡
       unfolding ruleOf
       rule-call q e h n = rw (← kk, ne-eqb k 4 n4, ne-eqb k 13 n13, eq-eqb k 11 e, ← aa, ← n) (record { made = h; left = refl })
 
+      pub rule-led : k ≡ 11 → m ≡ enteredOf s (procAt f tab (s .b)) (s .direction) tab → Says σ
+      rule-led e h = rule-call (procAt f tab (s .b)) e h (ap (λ (y : ℕ). word f (y + 4)) (sym aa))
+
       module _ (n11 : k ≡ 11 → ⊥) where
         pub rule-uncall : (q d : ℕ) → k ≡ 12 → m ≡ enteredOf s q d tab → d ≡ otherOf (s .direction) → q ≡ word f (at + 4) → Says σ
         unfolding ruleOf
         rule-uncall q d e h dd n = rw (← kk, ne-eqb k 4 n4, ne-eqb k 13 n13, ne-eqb k 11 n11, eq-eqb k 12 e, ← aa, ← n, ← dd) (record { made = h; left = refl })
+
+        pub rule-unled : (d : ℕ) → k ≡ 12 → m ≡ enteredOf s (procAt f tab (s .b)) d tab → d ≡ otherOf (s .direction) → Says σ
+        rule-unled d e h dd = rule-uncall (procAt f tab (s .b)) d e h dd (ap (λ (y : ℕ). word f (y + 4)) (sym aa))
 
         module _ (n12 : k ≡ 12 → ⊥) where
           pub rule-return : k ≤ 3 → m ≡ returnedOf s tab → Says σ
@@ -298,4 +304,4 @@ module _ (f tab arr : List ℕ) (s : Spot) (σ : Store) (k at : ℕ) (kk : k ≡
           unfolding ruleOf
           rule-test v e h n = rw (← kk, ne-eqb k 4 n4, ne-eqb k 13 n13, ne-eqb k 11 n11, ne-eqb k 12 n12, lt-leb k 3 e, ← aa, ← n) (record { made = h; left = refl })
 
-pub ruleset rules = (rule-set, rule-skip, rule-call, rule-uncall, rule-return, rule-test)
+pub ruleset rules = (rule-set, rule-skip, rule-led, rule-unled, rule-return, rule-test)

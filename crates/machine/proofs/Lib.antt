@@ -1,5 +1,6 @@
 -- The laws of `machine`, in the order in which they stand on each other.
 pub mod SetCases
+pub mod GateCases
 pub mod DecideCases
 pub mod WalkCases
 pub mod Room

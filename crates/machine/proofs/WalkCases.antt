@@ -15,7 +15,7 @@ use Rattle.machine.specs.declared.decide.Spot.{Spot}
 use Rattle.machine.specs.declared.decide.Move.{Move}
 use Rattle.machine.specs.declared.walk.Went.{Went}
 use Rattle.machine.specs.Decide.{Rules, ruleOf}
-use Rattle.machine.specs.Walk.{putIn, callsIn, callsOf, spotOf, afterOf, Gone, gone, goOf, Goes}
+use Rattle.machine.specs.Walk.{putIn, callsIn, callsOf, spotIn, spotOf, afterOf, Gone, gone, goOf, Goes}
 
 pub put-near : (s : List ℕ) (i v : ℕ) → i < 1104 → set s i v ≡ putIn s i v
 unfolding putIn
@@ -49,33 +49,34 @@ calls-far s n h = rw (lt-leb n 1104 h)
 
 pub ruleset counts = (calls-near, calls-far)
 
+-- ---- where a step stands
+pub spot-is : (d b c n : ℕ) (ks ls : List ℕ) (k l : ℕ) → k ≡ topAt ks n 9 → l ≡ topAt ls n 0
+    → _≡_ {A = Spot} (record { direction = d; b = b; calls = c; count = n; kind = k; label = l }) (spotIn d b c n ks ls)
+spot-is d b c n ks ls k l e f = rw (e, f)
+
 -- ---- a turn
 module _ (f tab arr : List ℕ) (n : ℕ) (q₀ : Held) (c₀ : ℕ) (σ₀ : Store) (made : ℕ) (h : Held) (c : ℕ) (σ : Store)
     (inv : goOf (ruleOf f tab arr) n q₀ c₀ σ₀ 0 ≡ goOf (ruleOf f tab arr) (n - made) h c σ made) where
-  abbrev spot : ℕ → ℕ → Spot
-  spot k l = record { direction = h .direction; b = h .b; calls = c; count = h .count; kind = k; label = l }
-
   goes : (r : Went) (τ : Store) → goOf (ruleOf f tab arr) n q₀ c₀ σ₀ 0 ≡ record { went = r; store = τ } → Goes (goOf (ruleOf f tab arr) n q₀ c₀ σ₀ 0) r τ
   goes r τ e = record { went = sym (ap (λ (g : Gone). g .went) e); left = sym (ap (λ (g : Gone). g .store) e) }
 
-  pub goes-done : n ≤ made → Goes (goOf (ruleOf f tab arr) n q₀ c₀ σ₀ 0) (record { reason = 0; steps = made; place = h }) σ
+  pub goes-done : (r : Went) → n ≤ made → r ≡ record { reason = 0; steps = made; place = h } → Goes (goOf (ruleOf f tab arr) n q₀ c₀ σ₀ 0) r σ
   unfolding goOf
-  goes-done k = let z : n - made ≡ 0 = omega arith in goes _ σ (inv ∙ rw z)
+  goes-done r k e = let z : n - made ≡ 0 = omega arith in goes r σ (inv ∙ rw (z, e))
 
-  module _ (k l : ℕ) (kk : k ≡ topAt (h .kinds) (h .count) 9) (ll : l ≡ topAt (h .labels) (h .count) 0) (m : Move) (τ : Store)
-      (rules : Rules (ruleOf f tab arr (spot k l) σ) m τ) (more : made < n) where
+  module _ (s : Spot) (ss : s ≡ spotOf h c) (m : Move) (τ : Store) (rules : Rules (ruleOf f tab arr s σ) m τ) (more : made < n) where
     left : n - made ≡ suc (n - (made + 1))
     left = omega arith
 
     move-is : ruleOf f tab arr (spotOf h c) σ .move ≡ m
-    move-is = sym (rules .made ∙ rw (kk, ll))
+    move-is = sym (rules .made ∙ ap (λ (x : Spot). ruleOf f tab arr x σ .move) ss)
 
     store-is : ruleOf f tab arr (spotOf h c) σ .store ≡ τ
-    store-is = sym (rules .left ∙ rw (kk, ll))
+    store-is = sym (rules .left ∙ ap (λ (x : Spot). ruleOf f tab arr x σ .store) ss)
 
-    pub goes-refused : (m .reason ≡ 0 → ⊥) → Goes (goOf (ruleOf f tab arr) n q₀ c₀ σ₀ 0) (record { reason = m .reason; steps = made; place = h }) τ
+    pub goes-refused : (r : Went) → (m .reason ≡ 0 → ⊥) → r ≡ record { reason = m .reason; steps = made; place = h } → Goes (goOf (ruleOf f tab arr) n q₀ c₀ σ₀ 0) r τ
     unfolding goOf
-    goes-refused e = goes _ τ (inv ∙ rw (left, move-is, store-is, ne-eqb (m .reason) 0 e))
+    goes-refused r e w = goes r τ (inv ∙ rw (left, move-is, store-is, ne-eqb (m .reason) 0 e, w))
 
     pub goes-on : m .reason ≡ 0 → (ks ls : List ℕ) → ks ≡ putIn (h .kinds) (m .slot) (m .kind) → ls ≡ putIn (h .labels) (m .slot) (m .label)
         → goOf (ruleOf f tab arr) n q₀ c₀ σ₀ 0

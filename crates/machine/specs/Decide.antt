@@ -94,10 +94,12 @@ repeatedOf s v y tab = cond (eqb v 0) (changedOf s (alongOf tab (s .direction) y
 abbrev pub gateOf : List ℕ → ℕ → ℕ → ℕ
 gateOf tab q d = cond (eqb d 0) (lookIn tab (9216 + q)) (lookIn tab (9280 + q))
 
+-- at the edge (a, b)
+unfoldable pub enteredTo : Spot → ℕ → ℕ → ℕ → Move
+enteredTo s a b d = cond (leb 64 (s .calls)) (refusedOf s 34) (moving 0 d a b (s .calls + 1) (moreOf (s .count)) (s .count) 4 (s .b))
+
 unfoldable pub enteredOf : Spot → ℕ → ℕ → List ℕ → Move
-enteredOf s q d tab =
-    cond (leb 64 (s .calls)) (refusedOf s 34)
-    (moving 0 d (gateOf tab q d) (alongOf tab d (gateOf tab q d)) (s .calls + 1) (moreOf (s .count)) (s .count) 4 (s .b))
+enteredOf s q d tab = enteredTo s (gateOf tab q d) (alongOf tab d (gateOf tab q d)) d
 
 abbrev pub resumedOf : List ℕ → ℕ → ℕ → ℕ
 resumedOf tab l d = cond (eqb (lookIn tab (1024 + l)) 12) (otherOf d) d

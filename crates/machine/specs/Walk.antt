@@ -23,11 +23,17 @@ callsIn s (suc n) = cond (eqb (getD s n 0) 4) (suc (callsIn s n)) (callsIn s n)
 abbrev pub callsOf : List ℕ → ℕ → ℕ
 callsOf s n = cond (leb n 1104) (callsIn s n) 0
 
+abbrev pub spotIn : ℕ → ℕ → ℕ → ℕ → List ℕ → List ℕ → Spot
+spotIn d b c n ks ls = record { direction = d; b = b; calls = c; count = n; kind = topAt ks n 9; label = topAt ls n 0 }
+
 abbrev pub spotOf : Held → ℕ → Spot
-spotOf h c = record { direction = h .direction; b = h .b; calls = c; count = h .count; kind = topAt (h .kinds) (h .count) 9; label = topAt (h .labels) (h .count) 0 }
+spotOf h c = spotIn (h .direction) (h .b) c (h .count) (h .kinds) (h .labels)
 
 abbrev pub afterOf : Held → Move → Held
 afterOf h m = record { direction = m .direction; a = m .a; b = m .b; count = m .count; kinds = putIn (h .kinds) (m .slot) (m .kind); labels = putIn (h .labels) (m .slot) (m .label) }
+
+abbrev pub endedIn : ℕ → ℕ → ℕ → ℕ → ℕ → ℕ → List ℕ → List ℕ → Went
+endedIn r n d a b c ks ls = record { reason = r; steps = n; place = record { direction = d; a = a; b = b; count = c; kinds = ks; labels = ls } }
 
 pub record Gone : Type 0 where
   pub went : Went

@@ -6,7 +6,8 @@ ghost use mathlib.Core.Path.{_≡_};
 ghost use Prim.Native.Nat.{_+_, _<_};
 ghost use Rattle.expr.specs.Answers.{worthAt};
 ghost use Rattle.expr.specs.Bytes.{parse};
-ghost use Rattle.machine.specs.Decide.{lookIn, moreOf, fewerOf, alongOf, gateOf, resumedOf, againOf, otherOf, truthOf, refusedOf, keptOf, pushedOf, poppedOf, changedOf, chosenOf, closedOf, openedOf, repeatedOf, enteredOf, returnedOf, testedOf, assignedOf, Rules, ruleOf};
+ghost use Rattle.machine.specs.Gates.{procAt, Gated};
+ghost use Rattle.machine.specs.Decide.{lookIn, moreOf, fewerOf, alongOf, gateOf, resumedOf, againOf, otherOf, truthOf, refusedOf, keptOf, pushedOf, poppedOf, changedOf, chosenOf, closedOf, openedOf, repeatedOf, enteredTo, enteredOf, returnedOf, testedOf, assignedOf, Rules, ruleOf};
 
 // Where a step stands: the direction, the record met, how many frames are calls, how many there are, and the innermost one (kind 9: none).
 pub struct Spot {
@@ -54,7 +55,7 @@ fn part(table: &[u16; 9344], section: usize, x: u16) -> u16
 }
 
 // Where record x stands in the file.
-fn offset(table: &[u16; 9344], x: u16) -> usize
+pub fn offset(table: &[u16; 9344], x: u16) -> usize
     ensures { λ r. ⌜ (r ≡ lookIn (now (table .entry)) x) × (r < 65536) ⌝ }
 {
     wide(look(table, wide(x)))
@@ -284,17 +285,14 @@ impl Spot {
         self.popped(along(table, self.direction, self.b))
     }
 
-    // A call enters procedure q in a direction; a 65th is refused.
-    fn entered(self, q: usize, direction: u8, table: &[u16; 9344]) -> Move
-        requires { ⌜ q < 65536 ⌝ }
-        ensures { λ r. ⌜ r ≡ enteredOf self q direction (now (table .entry)) ⌝ }
+    // A call enters a procedure at the edge (a, b) in a direction; a 65th is refused.
+    fn entered(self, a: u16, b: u16, direction: u8) -> Move
+        ensures { λ r. ⌜ r ≡ enteredTo self a b direction ⌝ }
     {
         let calls = self.calls;
         if 64 <= calls {
             return self.refused(34);
         }
-        let a = gate(table, q, direction);
-        let b = along(table, direction, a);
         let count = more(self.count);
         Move {
             reason: 0,
@@ -307,6 +305,41 @@ impl Spot {
             kind: 4,
             label: self.b,
         }
+    }
+
+    // The call that the record met is, in a direction: by the array of gates, or where that has it not by the file.
+    fn called(self, direction: u8, file: &[u8], table: &[u16; 9344], gates: &[u16; 2048]) -> Move
+        requires { ⌜ Gated (now file) (now table) direction (now gates) ⌝ }
+        ensures { λ r. ⌜ r ≡ enteredOf self (procAt (now (file .entry)) (now (table .entry)) (self .b)) direction (now (table .entry)) ⌝ }
+    {
+        let x = wide(self.b);
+        if x < 1024 {
+            let first = gates[x];
+            if first != 0 {
+                return self.entered(first, gates[x + 1024], direction);
+            }
+        }
+        let a = gate(table, short(file, offset(table, self.b) + 4), direction);
+        self.entered(a, along(table, direction, a), direction)
+    }
+
+    // The same by the array for the direction.
+    fn led(
+        self,
+        direction: u8,
+        file: &[u8],
+        table: &[u16; 9344],
+        downs: &[u16; 2048],
+        ups: &[u16; 2048],
+    ) -> Move
+        requires { ⌜ Gated (now file) (now table) 0 (now downs) ⌝ }
+        requires { ⌜ Gated (now file) (now table) 1 (now ups) ⌝ }
+        ensures { λ r. ⌜ r ≡ enteredOf self (procAt (now (file .entry)) (now (table .entry)) (self .b)) direction (now (table .entry)) ⌝ }
+    {
+        if direction == 0 {
+            return self.called(direction, file, table, downs);
+        }
+        self.called(direction, file, table, ups)
     }
 
     // END down and BEGIN up return to the calling record; none is left at the end of main.
@@ -382,9 +415,13 @@ pub fn decide(
     s: Spot,
     file: &[u8],
     table: &[u16; 9344],
+    downs: &[u16; 2048],
+    ups: &[u16; 2048],
     arrays: &[u16; 32],
     store: &mut [i32],
 ) -> Move
+    requires { ⌜ Gated (now file) (now table) 0 (now downs) ⌝ }
+    requires { ⌜ Gated (now file) (now table) 1 (now ups) ⌝ }
     ensures { λ r. ⌜ Rules (ruleOf (now (file .entry)) (now (table .entry)) (now (arrays .entry)) s (now (store .entry))) r (now (store .exit)) ⌝ }
 {
     let d = s.direction;
@@ -398,10 +435,10 @@ pub fn decide(
         return s.kept(along(table, d, s.b));
     }
     if kind == 11 {
-        return s.entered(short(file, at + 4), d, table);
+        return s.led(d, file, table, downs, ups);
     }
     if kind == 12 {
-        return s.entered(short(file, at + 4), other(d), table);
+        return s.led(other(d), file, table, downs, ups);
     }
     if kind <= 3 {
         return s.returned(table);

@@ -8,6 +8,7 @@ ghost use Rattle.machine.specs.Answers.{StepSays, RunSays, StartSays, di
 ghost use Rattle.machine.specs.Whole.{toldBy, staying, Runs, checkedRun, numberOf, startOf};
 
 mod decide;
+mod gates;
 mod set;
 mod walk;
 
@@ -74,7 +75,9 @@ fn checked(
     }
     let arrays = program::arrays::arrays(file);
     let calls = walk::calls(&place.kinds, place.count);
-    let went = walk::go(file, &table, &arrays, store, place, calls, n);
+    let downs = gates::gates(file, &table, records, 0);
+    let ups = gates::gates(file, &table, records, 1);
+    let went = walk::go(file, &table, &downs, &ups, &arrays, store, place, calls, n);
     let last = went.place;
     Ran {
         told: answer(went.reason),

@@ -1,4 +1,4 @@
-// The loop of a run: one place in a local, into which each step stores; no copy of it is made in a turn.
+// The loop of a run: one place, taken apart into locals, into which each step stores; no copy of it is made in a turn.
 use crate::decide::Spot;
 use crate::decide::decide;
 use place::Place;
@@ -6,13 +6,41 @@ use place::top_of;
 ghost use mathlib.Core.Path.{_≡_};
 ghost use Prim.Native.Nat.{_≤_};
 ghost use Rattle.machine.specs.Decide.{ruleOf};
-ghost use Rattle.machine.specs.Walk.{putIn, callsIn, callsOf, goOf, Goes};
+ghost use Rattle.machine.specs.Gates.{Gated};
+ghost use Rattle.machine.specs.Walk.{putIn, callsIn, callsOf, spotIn, endedIn, goOf, Goes};
 
 // How far it went: why it stopped (0: all steps were made), how many were made, and where it is.
 pub struct Went {
     pub reason: u8,
     pub steps: u32,
     pub place: Place,
+}
+
+fn ended(
+    reason: u8,
+    steps: u32,
+    direction: u8,
+    a: u16,
+    b: u16,
+    count: usize,
+    kinds: [u16; 1104],
+    labels: [u16; 1104],
+) -> Went
+    ensures { λ r. ⌜ r ≡ endedIn reason steps direction a b count kinds labels ⌝ }
+{
+    let place = Place {
+        direction,
+        a,
+        b,
+        count,
+        kinds,
+        labels,
+    };
+    Went {
+        reason,
+        steps,
+        place,
+    }
 }
 
 // Writes a slot; a number that no slot has writes nothing.
@@ -49,53 +77,68 @@ pub fn calls(kinds: &[u16; 1104], n: usize) -> u16
     0
 }
 
-// At most n steps from a place of which so many frames are calls.
+// Where a step stands, with the innermost frame.
+fn spot(
+    direction: u8,
+    b: u16,
+    calls: u16,
+    count: usize,
+    kinds: &[u16; 1104],
+    labels: &[u16; 1104],
+) -> Spot
+    ensures { λ r. ⌜ r ≡ spotIn direction b calls count (now (kinds .entry)) (now (labels .entry)) ⌝ }
+{
+    let kind = top_of(kinds, count, 9);
+    let label = top_of(labels, count, 0);
+    Spot {
+        direction,
+        b,
+        calls,
+        count,
+        kind,
+        label,
+    }
+}
+
+// At most n steps from a place of which so many frames are calls. In the loop the place is taken apart, so that all but the
+// frames stays in registers.
 pub fn go(
     file: &[u8],
     table: &[u16; 9344],
+    downs: &[u16; 2048],
+    ups: &[u16; 2048],
     arrays: &[u16; 32],
     store: &mut [i32],
     place: Place,
     calls: u16,
     n: u32,
 ) -> Went
+    requires { ⌜ Gated (now file) (now table) 0 (now downs) ⌝ }
+    requires { ⌜ Gated (now file) (now table) 1 (now ups) ⌝ }
     ensures { λ r. ⌜ Goes (goOf (ruleOf (now (file .entry)) (now (table .entry)) (now (arrays .entry))) n place calls (now (store .entry)) 0) r (now (store .exit)) ⌝ }
 {
-    let mut q = place;
+    let mut kinds = place.kinds;
+    let mut labels = place.labels;
+    let mut direction = place.direction;
+    let mut a = place.a;
+    let mut b = place.b;
+    let mut count = place.count;
     let mut deep = calls;
     let mut made: u32 = 0;
     while made < n {
-        let c = q.count;
-        let kind = top_of(&q.kinds, c, 9);
-        let label = top_of(&q.labels, c, 0);
-        let spot = Spot {
-            direction: q.direction,
-            b: q.b,
-            calls: deep,
-            count: c,
-            kind,
-            label,
-        };
-        let m = decide(spot, file, table, arrays, store);
+        let s = spot(direction, b, deep, count, &kinds, &labels);
+        let m = decide(s, file, table, downs, ups, arrays, store);
         if m.reason != 0 {
-            return Went {
-                reason: m.reason,
-                steps: made,
-                place: q,
-            };
+            return ended(m.reason, made, direction, a, b, count, kinds, labels);
         }
         made += 1;
-        q.direction = m.direction;
-        q.a = m.a;
-        q.b = m.b;
-        q.count = m.count;
+        direction = m.direction;
+        a = m.a;
+        b = m.b;
+        count = m.count;
         deep = m.calls;
-        put(&mut q.kinds, m.slot, m.kind);
-        put(&mut q.labels, m.slot, m.label);
+        put(&mut kinds, m.slot, m.kind);
+        put(&mut labels, m.slot, m.label);
     }
-    Went {
-        reason: 0,
-        steps: made,
-        place: q,
-    }
+    ended(0, made, direction, a, b, count, kinds, labels)
 }

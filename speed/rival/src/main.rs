@@ -1,7 +1,7 @@
 //! `rival N [show]`: a program file on standard input, run on zeros from the start down for at most
 //! N steps. Prints steps, reason and steps a second, the run alone timed; `show` prints in place of
 //! the last the place, its frames innermost first and the nonzero cells, as the second program does.
-#![forbid(unsafe_code)]
+#![deny(unsafe_code)]
 
 use rival::machine::{run, Place};
 use rival::table::Program;
@@ -9,7 +9,6 @@ use rival::value::MAX_CELLS;
 use std::hint::black_box;
 use std::io::Read;
 use std::process::ExitCode;
-use std::time::Instant;
 
 fn main() -> ExitCode {
     let words: Vec<String> = std::env::args().skip(1).collect();
@@ -33,6 +32,15 @@ fn main() -> ExitCode {
     ExitCode::SUCCESS
 }
 
+/// Processor time in microseconds, by C's `clock`: the one that our program is timed by, too.
+#[allow(unsafe_code)]
+fn clock() -> i64 {
+    extern "C" {
+        fn clock() -> std::ffi::c_long;
+    }
+    unsafe { clock() }
+}
+
 fn usage() -> ExitCode {
     eprintln!("usage: rival N [show] < FILE");
     ExitCode::from(2)
@@ -41,9 +49,9 @@ fn usage() -> ExitCode {
 fn timed(program: &Program, n: u32, show: bool) {
     let mut place = Place::start();
     let mut store = [0; MAX_CELLS];
-    let before = Instant::now();
+    let before = clock();
     let (steps, reason) = run(black_box(program), &mut place, &mut store, n);
-    let seconds = before.elapsed().as_secs_f64();
+    let seconds = (clock() - before) as f64 / 1e6;
     println!("steps {steps} stop {reason}");
     if show {
         shown(&place, &store);

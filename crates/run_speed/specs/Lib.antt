@@ -1,0 +1,2 @@
+-- The definitions of `run_speed`.
+pub mod Zeros

@@ -1,0 +1,13 @@
+-- The cells of a store on zeros, under a name that stays shut, so that no goal counts them one by one.
+use Prim.Native.Nat.{ℕ}
+use mathlib.Core.Path.{_≡_}
+use mathlib.Core.List.{List}
+use lib.IntN.{ℤ, pos}
+use lib.ListN.{length, replicate, length-replicate}
+
+unfoldable pub noughts : ℕ → List ℤ
+noughts n = replicate n (pos 0)
+
+pub length-noughts : (n : ℕ) → length (noughts n) ≡ n
+unfolding noughts
+length-noughts n = length-replicate n (pos 0)
