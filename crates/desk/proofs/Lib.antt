@@ -1,0 +1,2 @@
+-- The laws of `desk`.
+pub mod Cases

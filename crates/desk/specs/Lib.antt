@@ -1,0 +1,2 @@
+-- The definitions of `desk`.
+pub mod Desk
