@@ -1,2 +1,5 @@
 -- The laws of `desk`.
 pub mod Cases
+pub mod Lent
+pub mod Lending
+pub mod LendingNumber

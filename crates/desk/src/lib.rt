@@ -1,4 +1,5 @@
 // The desk: one current session, lent and moved; and what C calls. Every function is total.
+ghost use mathlib.Core.Bool.{true, false};
 ghost use mathlib.Core.Path.{_≡_};
 ghost use Rattle.machine.specs.Answers.{RunSays};
 ghost use Rattle.desk.specs.Desk.{numbers, made, OverSays, way, MoveSays};
@@ -91,11 +92,68 @@ pub fn moved(file: &[u8], session: Session, back: bool, n: u32) -> Outcome
     Outcome { session, answer }
 }
 
-// The session that is lent, moved at most n steps.
-pub fn move_lent(file: &[u8], session: &mut Session, back: bool, n: u32) -> Answer
-    ensures { λ r. ⌜ MoveSays back (now (file .entry)) (now (session .entry)) n (made r (now (session .exit))) ⌝ }
+// At most n steps forward.
+pub fn ran(file: &[u8], session: Session, n: u32) -> Outcome
+    ensures { λ r. ⌜ MoveSays false (now (file .entry)) session n r ⌝ }
 {
-    let m = moved(file, *session, back, n);
-    *session = m.session;
-    m.answer
+    moved(file, session, false, n)
+}
+
+// At most n steps back.
+pub fn ran_back(file: &[u8], session: Session, n: u32) -> Outcome
+    ensures { λ r. ⌜ MoveSays true (now (file .entry)) session n r ⌝ }
+{
+    moved(file, session, true, n)
+}
+
+// A step forward.
+pub fn stepped(file: &[u8], session: Session) -> Outcome
+    ensures { λ r. ⌜ MoveSays false (now (file .entry)) session 1 r ⌝ }
+{
+    moved(file, session, false, 1)
+}
+
+// A step back.
+pub fn stepped_back(file: &[u8], session: Session) -> Outcome
+    ensures { λ r. ⌜ MoveSays true (now (file .entry)) session 1 r ⌝ }
+{
+    moved(file, session, true, 1)
+}
+
+// ---- over a session that is lent, for C too
+
+#[no_mangle]
+pub extern "C" fn ladrukhi_step(file: &[u8], session: &mut Session) -> Answer
+    ensures { λ r. ⌜ MoveSays false (now (file .entry)) (now (session .entry)) 1 (made r (now (session .exit))) ⌝ }
+{
+    let o = stepped(file, *session);
+    *session = o.session;
+    o.answer
+}
+
+#[no_mangle]
+pub extern "C" fn ladrukhi_back(file: &[u8], session: &mut Session) -> Answer
+    ensures { λ r. ⌜ MoveSays true (now (file .entry)) (now (session .entry)) 1 (made r (now (session .exit))) ⌝ }
+{
+    let o = stepped_back(file, *session);
+    *session = o.session;
+    o.answer
+}
+
+#[no_mangle]
+pub extern "C" fn ladrukhi_run(file: &[u8], session: &mut Session, n: u32) -> Answer
+    ensures { λ r. ⌜ MoveSays false (now (file .entry)) (now (session .entry)) n (made r (now (session .exit))) ⌝ }
+{
+    let o = ran(file, *session, n);
+    *session = o.session;
+    o.answer
+}
+
+#[no_mangle]
+pub extern "C" fn ladrukhi_run_back(file: &[u8], session: &mut Session, n: u32) -> Answer
+    ensures { λ r. ⌜ MoveSays true (now (file .entry)) (now (session .entry)) n (made r (now (session .exit))) ⌝ }
+{
+    let o = ran_back(file, *session, n);
+    *session = o.session;
+    o.answer
 }

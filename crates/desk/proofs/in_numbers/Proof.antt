@@ -6,4 +6,4 @@ use Rattle.desk.proofs.in_numbers.Tie as tie
 
 pub in-numbers-spec : {M : Type 1} → statement M
 in-numbers-spec =
-    tie.close (tie.spec (λ c. search needs) (λ c. search needs) (λ c. search (numbers-done, numbers-refused)) (λ c. search (numbers-done, numbers-refused)))
+    tie.close (tie.spec (λ c. search needs) (λ c. search needs) (λ c. search numbers-done) (λ c. search numbers-refused))
