@@ -78,7 +78,7 @@ pub record Numbers (h : Held) : Type 0 where
   pub b : h .b < 2 ^ 16
   pub labels : (k : ℕ) → getD (h .labels) k 0 < 2 ^ 16
 
-labels-in : (n : ℕ) (ks ls : List ℕ) → ((k : ℕ) → getD ls k 0 < 2 ^ 16) → LabelsFit (framesIn n ks ls)
+pub labels-in : (n : ℕ) (ks ls : List ℕ) → ((k : ℕ) → getD ls k 0 < 2 ^ 16) → LabelsFit (framesIn n ks ls)
 unfolding framesIn
 labels-in zero ks ls f = tt
 labels-in (suc n) ks ls f = (rw (label-of (getD ks n 0) (getD ls n 0)) (f n), labels-in n ks ls f)

@@ -1,0 +1,7 @@
+-- The laws of `saved`.
+pub mod Counts
+pub mod ReadCases
+pub mod SaveCases
+pub mod OneAnswer
+pub mod Determined
+pub mod Promises

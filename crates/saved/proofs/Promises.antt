@@ -1,0 +1,84 @@
+-- The promises about session files, of the code's own answers as their contracts say them. Assumes nothing.
+--     saved-reads-back   what a save wrote reads back as the same place and store
+--     files-differ       two saves of one file are of one place and store: different ones have different files
+--     one-file           one place and store has exactly one file that reads as it
+--     read-then-saved    what is read and saved again is the same bytes
+use Prim.Native.Nat.{ℕ, _≤_, _<_}
+use mathlib.Core.Path.{_≡_, refl, sym, ap, _∙_, subst}
+use mathlib.Core.List.{List, _++_}
+use lib.ListN.{length, take, drop}
+use lib.Seq.{take-at}
+use native.Mathlib.Omega.{arith}
+use Rattle.codes.specs.Codes.{AllBytes}
+use Rattle.place.specs.declared.Place.{Place as Held}
+use Rattle.place.specs.Places.{Place}
+use Rattle.place.specs.Slots.{held, seen}
+use Rattle.place.proofs.Held.{held-injective, seen-held, length-frames}
+use Rattle.program.specs.Trees.{Tree, cells}
+use Rattle.moves.specs.Places.{Fits}
+use Rattle.moves.specs.Stores.{Store}
+use Rattle.fits.proofs.Few.{frames-few}
+use Rattle.session.specs.Session.{encode, LabelsFit, CellsFit, Fit, Reads}
+use Rattle.session.proofs.Reading.{encode-injective}
+use Rattle.session.proofs.Round.{Numbers, labels-in}
+use Rattle.machine.specs.declared.Told.{Told}
+use Rattle.machine.specs.declared.Told.the-variants.{Done, Refused}
+use Rattle.machine.specs.Answers as machine
+use Rattle.saved.specs.Answers.{ReadSays, refused, found, SaveSays, short, saved}
+use Rattle.saved.proofs.Counts.{cells-few}
+use Rattle.saved.proofs.OneAnswer.{not-done, read-one, save-one}
+
+-- a place and a store that a program may have fit a file; the struct's numbers are u16 and the cells i32, as their types say
+ready-fit : {f : List ℕ} {q : Held} {σ : Store} {t : Tree} {p : Place} → Numbers q → CellsFit σ → machine.Ready f q σ t p → Fit p σ
+ready-fit {q = q} {t = t} {p} nums vals R =
+    let e : seen q ≡ p = ap seen (R .holds) ∙ seen-held p in
+    record {
+      a = subst (λ (p : Place). p .a < 65536) e (nums .a);
+      b = subst (λ (p : Place). p .b < 65536) e (nums .b);
+      frames = frames-few (R .accepts) p (R .fits);
+      labels = subst (λ (p : Place). LabelsFit (p .frames)) e (labels-in (q .count) (q .kinds) (q .labels) (nums .labels));
+      count = omega (arith, R .sized, cells-few (R .accepts));
+      cells = vals;
+    }
+
+-- the bytes that a save wrote
+record Wrote (f : List ℕ) (q : Held) (σ : Store) (bytes : List ℕ) : Type 0 where
+  t : Tree
+  p : Place
+  ready : machine.Ready f q σ t p
+  is : bytes ≡ encode p σ
+
+wrote : {f : List ℕ} {q : Held} {σ : Store} {buf : List ℕ} {n : ℕ} {out : List ℕ} → SaveSays f q σ buf Done n out → Wrote f q σ (take n out)
+wrote (refused b e₁ e₂ e₃) = not-done e₁
+wrote (short R h e₁ e₂ e₃) = not-done e₁
+wrote {σ = σ} {n = n} (saved {t} {p} R h e₁ e₂ e₃) =
+    record { t = t; p = p; ready = R; is = ap (take n) e₃ ∙ take-at (encode p σ) _ n (sym e₂) }
+
+module _ {f : List ℕ} (B : AllBytes f) {q : Held} {σ : Store} where
+  pub saved-reads-back : {buf out : List ℕ} {n : ℕ} {st st′ : Store} {a : Told} {q′ : Held} → Numbers q → CellsFit σ → SaveSays f q σ buf Done n out
+      → ReadSays f (take n out) st a q′ st′ → length st ≡ length σ → (a ≡ Done) × (q′ ≡ q) × (st′ ≡ σ)
+  saved-reads-back {out = out} {n} {st} nums vals x y l =
+      let w = wrote x in
+      let z : ReadSays f (take n out) st Done q σ = found (record { fit = ready-fit nums vals (w .ready); file = w .is }) (w .ready) (l ∙ w .ready .sized) refl in
+      read-one B y z
+
+  pub read-then-saved : {s buf out : List ℕ} {st : Store} {a : Told} {n : ℕ} → ReadSays f s st Done q σ → SaveSays f q σ buf a n out → length s ≤ length buf
+      → (a ≡ Done) × (n ≡ length s) × (out ≡ s ++ drop (length s) buf)
+  read-then-saved (refused b e₁ e₂ e₃) y h = not-done e₁
+  read-then-saved {s} {buf} (found {t} {p} r R l e) y h =
+      let z : SaveSays f q σ buf Done (length s) (s ++ drop (length s) buf) =
+      saved R (subst (λ (x : List ℕ). length x ≤ length buf) (r .file) h) refl (ap length (r .file)) (ap (λ (x : List ℕ). x ++ drop (length x) buf) (r .file)) in
+      save-one B y z
+
+pub one-file : {f : List ℕ} {q : Held} {σ : Store} {s s′ : List ℕ} {st st′ : Store} → ReadSays f s st Done q σ → ReadSays f s′ st′ Done q σ → s ≡ s′
+one-file (refused b e₁ e₂ e₃) y = not-done e₁
+one-file (found r R l e) (refused b e₁ e₂ e₃) = not-done e₁
+one-file {σ = σ} (found {p = p} r R l e) (found {p = p′} r′ R′ l′ e′) =
+    let z : p ≡ p′ = held-injective p p′ (sym (R .holds) ∙ R′ .holds) in r .file ∙ ap (λ p. encode p σ) z ∙ sym (r′ .file)
+
+pub files-differ : {f : List ℕ} {q q′ : Held} {σ σ′ : Store} {buf buf′ out out′ : List ℕ} {n n′ : ℕ} → Numbers q → Numbers q′ → CellsFit σ → CellsFit σ′
+    → SaveSays f q σ buf Done n out → SaveSays f q′ σ′ buf′ Done n′ out′ → take n out ≡ take n′ out′ → (q ≡ q′) × (σ ≡ σ′)
+files-differ {σ = σ} {σ′} nums nums′ vals vals′ x y e =
+    let w = wrote x in let w′ = wrote y in
+    let z = encode-injective (w .p) (w′ .p) σ σ′ (ready-fit nums vals (w .ready)) (ready-fit nums′ vals′ (w′ .ready)) (sym (w .is) ∙ e ∙ w′ .is) in
+    (w .ready .holds ∙ ap held (z .0) ∙ sym (w′ .ready .holds), z .1)

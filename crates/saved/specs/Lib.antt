@@ -1,0 +1,3 @@
+-- The definitions of `saved`.
+pub mod Answers
+pub mod Whole
