@@ -1,22 +1,36 @@
 -- The answers of the functions of src/lib.rt, case by case. Assumes nothing.
 use Prim.Native.Nat.{ℕ, _<_, _≤_}
 use mathlib.Core.Bool.{Bool, true, false}
-use mathlib.Core.List.{List, _++_}
-use mathlib.Core.Path.{_≡_, refl, sym, ap, subst}
-use lib.ListN.{drop}
+use mathlib.Core.List.{List, [], _++_}
+use mathlib.Core.Path.{_≡_, refl, sym, ap, ap₂, _∙_, subst}
+use native.Mathlib.Omega.{arith}
+use lib.IntN.{pos}
+use lib.ListN.{length, take, drop, replicate}
+use lib.Seq.{length-take-le}
 use Rattle.codes.specs.Codes.{AllBytes}
 use Rattle.place.specs.declared.Place.{Place as Held}
-use Rattle.program.specs.Says.{Says}
+use Rattle.place.specs.Slots.{held}
+use Rattle.program.specs.Records.{FineFrom, InSize}
+use Rattle.program.specs.Trees.{Tree, cells, recordsOf, procedures}
+use Rattle.program.specs.Says.{Accepts, Says, accepted}
 use Rattle.program.specs.Check.{checkOf}
 use Rattle.program.specs.declared.Checked.the-variants.{Accepted, Refused as RefusedFile}
-use Rattle.program.proofs.CheckSays.{says, accepted-tree}
+use Rattle.program.proofs.CheckSays.{says, determined, accepted-tree}
 use Rattle.moves.specs.Stores.{Store}
-use Rattle.machine.specs.Answers.{RunSays}
+use Rattle.moves.specs.Step.{start}
+use Rattle.machine.specs.Answers.{RunSays, StartSays, started, direction}
+use Rattle.machine.specs.Answers as machine
 use Rattle.machine.specs.declared.Told.{Told}
 use Rattle.machine.specs.declared.Told.the-variants.{Done, Refused}
+use Rattle.saved.specs.Answers.{ReadBefore, ReadSays, found, SaveSays}
+use Rattle.saved.specs.Answers as saved
 use Rattle.desk.specs.declared.Session.{Session}
 use Rattle.desk.specs.declared.Answer.{Answer}
-use Rattle.desk.specs.Desk.{numbers, made, storeOf, at, OverSays, program, size, way, MoveSays, over, within}
+use Rattle.desk.specs.declared.Outcome.{Outcome}
+use Rattle.desk.specs.declared.Counts.{Counts}
+use Rattle.desk.specs.Whole.{settling}
+use Rattle.desk.specs.Desk as desk
+use Rattle.desk.specs.Desk.{BeginSays, begun, upward, OpenSays, opened, SavingSays, counts, CheckSays, said, numbers, made, storeOf, laid, OverSays, program, size, way, MoveSays, over, within}
 
 pub numbers-done : (t : Told) (n : ℕ) → t ≡ Done → record { reason = 0; label = 0; count = n } ≡ numbers t n
 numbers-done t n e = ap (λ (t : Told). numbers t n) (sym e)
@@ -31,6 +45,52 @@ module _ (f : List ℕ) (B : AllBytes f) where
   pub over-accepted : (r p c : ℕ) → checkOf f ≡ Accepted r p c → OverSays f (Refused 20 0)
   over-accepted r p c e = size (accepted-tree f B r p c .0 e .accepts)
 
+  says-accepted : {r p c : ℕ} → checkOf f ≡ Accepted r p c → Says f (Accepted r p c)
+  says-accepted e = subst (Says f) e (says f B)
+
+  says-refused : {n k : ℕ} → checkOf f ≡ RefusedFile n k → Says f (RefusedFile n k)
+  says-refused e = subst (Says f) e (says f B)
+
+  not-both : {r p c n k : ℕ} → Says f (Accepted r p c) → Says f (RefusedFile n k) → ⊥
+  not-both {r} {p} {c} {n} {k} a b = let e : Accepted r p c ≡ RefusedFile n k = determined f B _ _ a b in let z : _≡_ {A = ℕ} 0 1 = cc in omega arith
+
+  cells-of : {r p c : ℕ} {t : Tree} → Says f (Accepted r p c) → Accepts f t → c ≡ cells t
+  cells-of {r} {p} {c} {t} a A = let e : Accepted r p c ≡ Accepted (length (recordsOf t)) (length (procedures t)) (cells t) = determined f B _ _ a (accepted t A) in cc
+
+  -- "cells (V plus all lengths) at most 2,048"
+  cells-few : (t : Tree) → FineFrom 0 0 (recordsOf t) → cells t ≤ 2048
+  unfolding FineFrom InSize recordsOf
+  cells-few t h = h .1 .0 .1 .1 .1 .1
+
+  pub cells-limit : {r p c : ℕ} → checkOf f ≡ Accepted r p c → c ≤ 2048
+  cells-limit {r} {p} {c} e = let T = accepted-tree f B r p c .0 e in subst (λ (n : ℕ). n ≤ 2048) (sym (T .cells-are′)) (cells-few (T .tree) (T .accepts .rows .fine))
+
+  pub check-accepted : (r p c : ℕ) → checkOf f ≡ Accepted r p c → CheckSays f (record { reason = 0; label = 0; records = r; procedures = p; cells = c })
+  check-accepted r p c e = said (says-accepted e) refl
+
+  pub check-refused : (n k : ℕ) → checkOf f ≡ RefusedFile n k → CheckSays f (record { reason = n; label = k; records = 0; procedures = 0; cells = 0 })
+  check-refused n k e = said (says-refused e) refl
+
+  module _ (s : Session) (m : Outcome) where
+    pub begin-refused : (d n k : ℕ) → checkOf f ≡ RefusedFile n k → m ≡ made (numbers (Refused n k) 0) s → BeginSays f s d m
+    begin-refused d n k e h = desk.refused (says-refused e) h
+
+    pub open-refused : (bytes : List ℕ) (n k : ℕ) → checkOf f ≡ RefusedFile n k → m ≡ made (numbers (Refused n k) 0) s → OpenSays f bytes s m
+    open-refused bytes n k e h = desk.refused {σ = []} (λ t A. absurd (not-both (accepted t A) (says-refused e))) (saved.program (says-refused e)) h
+
+    pub open-settled : (bytes : List ℕ) {r p c : ℕ} → checkOf f ≡ Accepted r p c → (told : Told) (q : Held) (σ : Store) → length (s .cells) ≡ 2048 → ReadSays f bytes (take c (s .cells)) told q σ
+        → m ≡ settling s told q c (σ ++ drop c (s .cells)) → OpenSays f bytes s m
+    open-settled bytes {c = c} e told q σ l (saved.refused {n} {k} b et eq es) h =
+        desk.refused (λ t A. length-take-le c (s .cells) (let z = cells-limit e in omega (arith, z, l)) ∙ cells-of (says-accepted e) A) b (h ∙ ap (λ (x : Told). settling s x q c (σ ++ drop c (s .cells))) et)
+    open-settled bytes {c = c} e told q σ l (found {t} {p} R D lt et) h =
+        opened R D (h ∙ (ap (λ (x : Told). settling s x q c (σ ++ drop c (s .cells))) et ∙ ap (λ (n : ℕ). made (numbers Done 0) (laid s q n σ)) (cells-of (says-accepted e) (D .accepts))))
+
+  pub begin-begun : (s : Session) (d : ℕ) {r p c : ℕ} → checkOf f ≡ Accepted r p c → (told : Told) (q : Held) → StartSays f (direction (upward d)) told q
+      → (z : Session) → z ≡ laid s q c (replicate c (pos 0)) → (a : Answer) → a ≡ numbers Done 0 → BeginSays f s d (record { session = z; answer = a })
+  begin-begun s d e told q (machine.refused b et eq) z ez a ea = absurd (not-both (says-accepted e) b)
+  begin-begun s d {c = c} e told q (started {t} A et eq) z ez a ea =
+      begun A (ap₂ made ea (ez ∙ (ap (λ (q : Held). laid s q c (replicate c (pos 0))) eq ∙ ap (λ (n : ℕ). laid s (held (start t (direction (upward d)))) n (replicate n (pos 0))) (cells-of (says-accepted e) A))))
+
 module _ (f : List ℕ) (q : Held) (σ : Store) (n : ℕ) (told : Told) (steps : ℕ) (q′ : Held) (σ′ : Store) (back : Bool) where
   pub run-there : back ≡ true → RunSays (way true) f q σ n told steps q′ σ′ → RunSays (way back) f q σ n told steps q′ σ′
   run-there e h = subst (λ (b : Bool). RunSays (way b) f q σ n told steps q′ σ′) (sym e) h
@@ -44,4 +104,11 @@ module _ (back : Bool) (f : List ℕ) (s : Session) (n : ℕ) (told : Told) (a :
 
   pub move-within : (steps : ℕ) (q : Held) (σ : Store) → s .count ≤ 2048 → RunSays (way back) f (s .place) (storeOf s) n told steps q σ → a ≡ numbers told steps
       → MoveSays back f s n (record { session = record { place = q; count = s .count; cells = σ ++ drop (s .count) (s .cells) }; answer = a })
-  move-within steps q σ h r e = within h r (ap (λ (a : Answer). made a (at s q σ)) e)
+  move-within steps q σ h r e = within h r (ap (λ (a : Answer). made a (laid s q (s .count) σ)) e)
+
+module _ (f : List ℕ) (s : Session) (buf : List ℕ) (told : Told) (a : Answer) where
+  pub saving-over : 2048 < s .count → OverSays f told → a ≡ numbers told 0 → SavingSays f s buf a buf
+  saving-over h o e = desk.over h o e refl
+
+  pub saving-within : (written : ℕ) (buf′ : List ℕ) → s .count ≤ 2048 → SaveSays f (s .place) (storeOf s) buf told written buf′ → a ≡ numbers told written → SavingSays f s buf a buf′
+  saving-within written buf′ h w e = desk.within h w e

@@ -1,5 +1,6 @@
 -- The laws of `desk`.
 pub mod Cases
+pub mod Zeros
 pub mod Lent
 pub mod Lending
 pub mod LendingNumber

@@ -1,8 +1,13 @@
 // The desk: one current session, lent and moved; and what C calls. Every function is total.
 ghost use mathlib.Core.Bool.{true, false};
 ghost use mathlib.Core.Path.{_≡_};
+ghost use Prim.Native.Nat.{_≤_};
+ghost use lib.IntN.{pos};
+ghost use lib.ListN.{length, replicate};
 ghost use Rattle.machine.specs.Answers.{RunSays};
-ghost use Rattle.desk.specs.Desk.{numbers, made, OverSays, way, MoveSays};
+ghost use Rattle.machine.specs.declared.Told.the-variants.{Refused};
+ghost use Rattle.desk.specs.Desk.{numbers, made, laid, OverSays, way, MoveSays, BeginSays, OpenSays, SavingSays, CheckSays};
+ghost use Rattle.desk.specs.Whole.{settling};
 use machine::Ran;
 use machine::Told;
 use place::Place;
@@ -22,6 +27,16 @@ pub struct Answer {
     pub reason: u8,
     pub label: usize,
     pub count: usize,
+}
+
+// What a check tells: the number and the record, or the counts.
+#[repr(C)]
+pub struct Counts {
+    pub reason: u8,
+    pub label: usize,
+    pub records: usize,
+    pub procedures: usize,
+    pub cells: usize,
 }
 
 // The session afterwards, and the answer.
@@ -120,7 +135,150 @@ pub fn stepped_back(file: &[u8], session: Session) -> Outcome
     moved(file, session, true, 1)
 }
 
+// Zeros in every cell.
+fn clear(store: &mut [i32])
+    ensures { λ _. ⌜ now (store .exit) ≡ replicate (length (now (store .entry))) (pos 0) ⌝ }
+{
+    let mut i = 0;
+    while i < store.len() {
+        store[i] = 0;
+        i += 1;
+    }
+}
+
+// The session at a place, its first `count` cells zeros.
+fn laid_out(session: Session, place: Place, count: usize) -> Session
+    requires { ⌜ count ≤ 2048 ⌝ }
+    ensures { λ r. ⌜ r ≡ laid session place count (replicate count (pos 0)) ⌝ }
+{
+    let mut cells = session.cells;
+    clear(&mut cells[..count]);
+    Session {
+        place,
+        count,
+        cells,
+    }
+}
+
+// Refused, the session as it was.
+fn refused(session: Session, number: u8, k: usize) -> Outcome
+    ensures { λ r. ⌜ r ≡ made (numbers (Refused number k) 0) session ⌝ }
+{
+    let answer = Answer {
+        reason: number,
+        label: k,
+        count: 0,
+    };
+    Outcome { session, answer }
+}
+
+// A start of the program over zeros, down where the direction is 0, else up.
+pub fn started(file: &[u8], session: Session, direction: u32) -> Outcome
+    ensures { λ r. ⌜ BeginSays (now (file .entry)) session direction r ⌝ }
+{
+    match program::check(file) {
+        Checked::Refused(number, k) => refused(session, number, k),
+        Checked::Accepted(_, _, count) => {
+            let r = machine::start(file, direction != 0);
+            let place = r.place;
+            let session = laid_out(session, place, count);
+            let answer = in_numbers(Told::Done, 0);
+            Outcome { session, answer }
+        }
+    }
+}
+
+// What a reading leaves: the session that was read, or the one that was there.
+fn settled(session: Session, told: Told, place: Place, count: usize, cells: [i32; 2048]) -> Outcome
+    ensures { λ r. ⌜ r ≡ settling session told place count cells ⌝ }
+{
+    match told {
+        Told::Refused(number, k) => refused(session, number, k),
+        Told::Done => {
+            let session = Session {
+                place,
+                count,
+                cells,
+            };
+            let answer = in_numbers(Told::Done, 0);
+            Outcome { session, answer }
+        }
+    }
+}
+
+// The session of a session file.
+pub fn opened(file: &[u8], saved: &[u8], session: Session) -> Outcome
+    ensures { λ r. ⌜ OpenSays (now (file .entry)) (now (saved .entry)) session r ⌝ }
+{
+    match program::check(file) {
+        Checked::Refused(number, k) => refused(session, number, k),
+        Checked::Accepted(_, _, count) => {
+            let mut cells = session.cells;
+            let r = saved::read(file, saved, &mut cells[..count]);
+            let told = r.told;
+            let place = r.place;
+            settled(session, told, place, count, cells)
+        }
+    }
+}
+
+// The session file of a session, into the buffer.
+pub fn saving(file: &[u8], session: Session, buffer: &mut [u8]) -> Answer
+    ensures { λ r. ⌜ SavingSays (now (file .entry)) session (now (buffer .entry)) r (now (buffer .exit)) ⌝ }
+{
+    let count = session.count;
+    if 2048 < count {
+        return in_numbers(over(file), 0);
+    }
+    let place = session.place;
+    let cells = session.cells;
+    let r = saved::save(file, place, &cells[..count], buffer);
+    let told = r.told;
+    in_numbers(told, r.written)
+}
+
+// What a check of the file tells.
+#[no_mangle]
+pub extern "C" fn ladrukhi_check(file: &[u8]) -> Counts
+    ensures { λ r. ⌜ CheckSays (now (file .entry)) r ⌝ }
+{
+    match program::check(file) {
+        Checked::Accepted(records, procedures, cells) => Counts {
+            reason: 0,
+            label: 0,
+            records,
+            procedures,
+            cells,
+        },
+        Checked::Refused(number, k) => Counts {
+            reason: number,
+            label: k,
+            records: 0,
+            procedures: 0,
+            cells: 0,
+        },
+    }
+}
+
 // ---- over a session that is lent, for C too
+
+#[no_mangle]
+pub extern "C" fn ladrukhi_start(file: &[u8], session: &mut Session, direction: u32) -> Answer
+    ensures { λ r. ⌜ BeginSays (now (file .entry)) (now (session .entry)) direction (made r (now (session .exit))) ⌝ }
+{
+    let o = started(file, *session, direction);
+    *session = o.session;
+    o.answer
+}
+
+#[no_mangle]
+pub extern "C" fn ladrukhi_open(file: &[u8], saved: &[u8], session: &mut Session) -> Answer
+    ensures { λ r. ⌜ OpenSays (now (file .entry)) (now (saved .entry)) (now (session .entry)) (made r (now (session .exit))) ⌝ }
+{
+    let o = opened(file, saved, *session);
+    *session = o.session;
+    o.answer
+}
 
 #[no_mangle]
 pub extern "C" fn ladrukhi_step(file: &[u8], session: &mut Session) -> Answer
