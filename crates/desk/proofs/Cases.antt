@@ -6,7 +6,6 @@ use mathlib.Core.Path.{_≡_, refl, sym, ap, ap₂, _∙_, subst}
 use native.Mathlib.Omega.{arith}
 use lib.IntN.{pos}
 use lib.ListN.{length, take, drop, replicate}
-use lib.Seq.{length-take-le}
 use Rattle.codes.specs.Codes.{AllBytes}
 use Rattle.place.specs.declared.Place.{Place as Held}
 use Rattle.place.specs.Slots.{held}
@@ -28,7 +27,7 @@ use Rattle.desk.specs.declared.Session.{Session}
 use Rattle.desk.specs.declared.Answer.{Answer}
 use Rattle.desk.specs.declared.Outcome.{Outcome}
 use Rattle.desk.specs.declared.Counts.{Counts}
-use Rattle.desk.specs.Whole.{settling}
+use Rattle.desk.specs.Whole.{settling, Settles}
 use Rattle.desk.specs.Desk as desk
 use Rattle.desk.specs.Desk.{BeginSays, begun, upward, OpenSays, opened, SavingSays, counts, CheckSays, said, numbers, made, storeOf, laid, OverSays, program, size, way, MoveSays, over, within}
 
@@ -78,12 +77,15 @@ module _ (f : List ℕ) (B : AllBytes f) where
     pub open-refused : (bytes : List ℕ) (n k : ℕ) → checkOf f ≡ RefusedFile n k → m ≡ made (numbers (Refused n k) 0) s → OpenSays f bytes s m
     open-refused bytes n k e h = desk.refused {σ = []} (λ t A. absurd (not-both (accepted t A) (says-refused e))) (saved.program (says-refused e)) h
 
-    pub open-settled : (bytes : List ℕ) {r p c : ℕ} → checkOf f ≡ Accepted r p c → (told : Told) (q : Held) (σ : Store) → length (s .cells) ≡ 2048 → ReadSays f bytes (take c (s .cells)) told q σ
+    open-read : (bytes : List ℕ) {r p c : ℕ} → checkOf f ≡ Accepted r p c → (told : Told) (q : Held) (σ : Store) → length (take c (s .cells)) ≡ c → ReadSays f bytes (take c (s .cells)) told q σ
         → m ≡ settling s told q c (σ ++ drop c (s .cells)) → OpenSays f bytes s m
-    open-settled bytes {c = c} e told q σ l (saved.refused {n} {k} b et eq es) h =
-        desk.refused (λ t A. length-take-le c (s .cells) (let z = cells-limit e in omega (arith, z, l)) ∙ cells-of (says-accepted e) A) b (h ∙ ap (λ (x : Told). settling s x q c (σ ++ drop c (s .cells))) et)
-    open-settled bytes {c = c} e told q σ l (found {t} {p} R D lt et) h =
+    open-read bytes {c = c} e told q σ l (saved.refused {n} {k} b et eq es) h =
+        desk.refused (λ t A. l ∙ cells-of (says-accepted e) A) b (h ∙ ap (λ (x : Told). settling s x q c (σ ++ drop c (s .cells))) et)
+    open-read bytes {c = c} e told q σ l (found {t} {p} R D lt et) h =
         opened R D (h ∙ (ap (λ (x : Told). settling s x q c (σ ++ drop c (s .cells))) et ∙ ap (λ (n : ℕ). made (numbers Done 0) (laid s q n σ)) (cells-of (says-accepted e) (D .accepts))))
+
+    pub open-settled : (bytes : List ℕ) {r p c : ℕ} → checkOf f ≡ Accepted r p c → Settles f bytes s c m → OpenSays f bytes s m
+    open-settled bytes e x = open-read bytes e (x .told) (x .place) (x .store) (x .sized) (x .read) (x .left)
 
   pub begin-begun : (s : Session) (d : ℕ) {r p c : ℕ} → checkOf f ≡ Accepted r p c → (told : Told) (q : Held) → StartSays f (direction (upward d)) told q
       → (z : Session) → z ≡ laid s q c (replicate c (pos 0)) → (a : Answer) → a ≡ numbers Done 0 → BeginSays f s d (record { session = z; answer = a })

@@ -4,3 +4,4 @@ pub mod Zeros
 pub mod Lent
 pub mod Lending
 pub mod LendingNumber
+pub mod LendingBytes

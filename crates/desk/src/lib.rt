@@ -7,7 +7,7 @@ ghost use lib.ListN.{length, replicate};
 ghost use Rattle.machine.specs.Answers.{RunSays};
 ghost use Rattle.machine.specs.declared.Told.the-variants.{Refused};
 ghost use Rattle.desk.specs.Desk.{numbers, made, laid, OverSays, way, MoveSays, BeginSays, OpenSays, SavingSays, CheckSays};
-ghost use Rattle.desk.specs.Whole.{settling};
+ghost use Rattle.desk.specs.Whole.{settling, Settles};
 use machine::Ran;
 use machine::Told;
 use place::Place;
@@ -206,19 +206,25 @@ fn settled(session: Session, told: Told, place: Place, count: usize, cells: [i32
     }
 }
 
+// The session of a session file, for a program of so many cells.
+fn read_in(file: &[u8], saved: &[u8], session: Session, count: usize) -> Outcome
+    requires { ⌜ count ≤ 2048 ⌝ }
+    ensures { λ r. ⌜ Settles (now (file .entry)) (now (saved .entry)) session count r ⌝ }
+{
+    let mut cells = session.cells;
+    let r = saved::read(file, saved, &mut cells[..count]);
+    let told = r.told;
+    let place = r.place;
+    settled(session, told, place, count, cells)
+}
+
 // The session of a session file.
 pub fn opened(file: &[u8], saved: &[u8], session: Session) -> Outcome
     ensures { λ r. ⌜ OpenSays (now (file .entry)) (now (saved .entry)) session r ⌝ }
 {
     match program::check(file) {
         Checked::Refused(number, k) => refused(session, number, k),
-        Checked::Accepted(_, _, count) => {
-            let mut cells = session.cells;
-            let r = saved::read(file, saved, &mut cells[..count]);
-            let told = r.told;
-            let place = r.place;
-            settled(session, told, place, count, cells)
-        }
+        Checked::Accepted(_, _, count) => read_in(file, saved, session, count),
     }
 }
 
