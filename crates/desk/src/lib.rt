@@ -321,3 +321,10 @@ pub extern "C" fn ladrukhi_run_back(file: &[u8], session: &mut Session, n: u32) 
     *session = o.session;
     o.answer
 }
+
+#[no_mangle]
+pub extern "C" fn ladrukhi_save(file: &[u8], session: &Session, buffer: &mut [u8]) -> Answer
+    ensures { λ r. ⌜ SavingSays (now (file .entry)) (now (session .entry)) (now (buffer .entry)) r (now (buffer .exit)) ⌝ }
+{
+    saving(file, *session, buffer)
+}
