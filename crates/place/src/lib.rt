@@ -6,6 +6,7 @@ ghost use lib.ListN.{getD};
 ghost use Rattle.place.specs.Slots.{Plain, Decides};
 ghost use Rattle.place.specs.Methods.{zeros, blankOf, turnedOf, movedOf, pushedOf, poppedOf, changedOf, topAt, topIn};
 
+#[repr(C)]
 pub struct Place {
     pub direction: u8,
     pub a: u16,

@@ -25,7 +25,7 @@ use Rattle.machine.specs.declared.Told.{Told}
 use Rattle.machine.specs.declared.Told.the-variants.{Done}
 use Rattle.machine.specs.Answers as machine
 use Rattle.saved.specs.Answers.{ReadSays, refused, found, SaveSays, short, saved}
-use Rattle.saved.proofs.Counts.{cells-few}
+use Rattle.program.proofs.Few.{cells-few}
 use Rattle.saved.proofs.OneAnswer.{not-done, read-one, save-one}
 
 -- a place and a store that a program may have fit a file; the struct's numbers are u16 and the cells i32, as their types say

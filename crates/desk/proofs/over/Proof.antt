@@ -1,0 +1,21 @@
+-- `desk::over` meets its contract. Assumes nothing.
+use mathlib.Core.Path.{sym, _∙_}
+use native.Mathlib.Omega.{arith}
+use borrow.Author.Needs.{needs}
+use Rattle.desk.proofs.Cases.{over-refused, over-accepted}
+use Rattle.desk.proofs.over.Statement.{statement}
+use Rattle.desk.proofs.over.Tie as tie
+
+pub over-spec : {M : Type 1} → statement M
+over-spec =
+    tie.close
+    (tie.spec
+    (λ c κs. search needs)
+    (λ c. search needs)
+    (λ c. search needs)
+    (λ c.
+    let k = c .before .before .before in
+    over-refused (k .before .before .args .file .now) (λ i. omega (arith, k .before .shared-slice-known .given i)) (k .check .result) (k .check .ensures) _ _ (c .before .number .given .1))
+    (λ c.
+    let k = c .before .before in
+    over-accepted (k .before .before .args .file .now) (λ i. omega (arith, k .before .shared-slice-known .given i)) (k .check .result) (k .check .ensures) _ _ _ (c .enum-told .given .1)))

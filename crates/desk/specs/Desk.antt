@@ -1,0 +1,85 @@
+-- What the desk's calls answer, in the document's numbers, and the session afterwards: for every file and every session.
+use Prim.Native.Nat.{ℕ, _<_, _≤_}
+use mathlib.Core.Bool.{Bool, true, false, not}
+use mathlib.Core.List.{List, _++_}
+use mathlib.Core.Path.{_≡_}
+use lib.Dec.{eqb}
+use lib.IntN.{pos}
+use lib.ListN.{length, take, drop, replicate}
+use Rattle.place.specs.declared.Place.{Place as Held}
+use Rattle.place.specs.Slots.{held}
+use Rattle.order.specs.Trees.{Tree, cells}
+use Rattle.program.specs.Says.{Given, fault, Accepts, Says}
+use Rattle.moves.specs.Places.{Place}
+use Rattle.moves.specs.Stores.{Store}
+use Rattle.moves.specs.Step.{start}
+use Rattle.moves.specs.Runs as runs
+use Rattle.session.specs.Session.{Reads}
+use Rattle.machine.specs.Answers.{Ready, RunSays, direction}
+use Rattle.machine.specs.declared.Told.{Told}
+use Rattle.machine.specs.declared.Told.the-variants.{Done, Refused}
+use Rattle.saved.specs.Answers.{ReadBefore, SaveSays}
+use Rattle.desk.specs.declared.Session.{Session}
+use Rattle.desk.specs.declared.Answer.{Answer}
+use Rattle.desk.specs.declared.Outcome.{Outcome}
+use Rattle.desk.specs.declared.Counts.{Counts}
+
+-- The document's number (0 where nothing is refused), the record (0 where there is none), and the count.
+abbrev pub numbers : Told → ℕ → Answer
+numbers Done n = record { reason = 0; label = 0; count = n }
+numbers (Refused m k) n = record { reason = m; label = k; count = n }
+
+-- The answer, and the session afterwards.
+abbrev pub made : Answer → Session → Outcome
+made a s = record { session = s; answer = a }
+
+-- The first cells are the store; those at and beyond the count are no part of it.
+abbrev pub storeOf : Session → Store
+storeOf s = take (s .count) (s .cells)
+
+-- The session at another place, its store the first n cells: the others as they were.
+abbrev pub laid : Session → Held → ℕ → Store → Session
+laid s q n σ = record { place = q; count = n; cells = σ ++ drop n (s .cells) }
+
+-- A count over 2,048 is no program's: the program's own refusal, else 20.
+pub data OverSays (f : List ℕ) : Told → Type 0 where
+  program : {n k : ℕ} → Says f (fault n k) → OverSays f (Refused n k)
+  size : {t : Tree} → Accepts f t → OverSays f (Refused 20 0)
+
+-- Forward, or back.
+abbrev pub way : Bool → Tree → ℕ → Place → Store → runs.Ran
+way false = runs.run
+way true = runs.runBack
+
+-- A run of n steps from the session's place over its store.
+pub data MoveSays (back : Bool) (f : List ℕ) (s : Session) (n : ℕ) (m : Outcome) : Type 0 where
+  over : {told : Told} → 2048 < s .count → OverSays f told → m ≡ made (numbers told 0) s → MoveSays back f s n m
+  within : {told : Told} {steps : ℕ} {q : Held} {σ : Store} → s .count ≤ 2048 → RunSays (way back) f (s .place) (storeOf s) n told steps q σ
+      → m ≡ made (numbers told steps) (laid s q (s .count) σ) → MoveSays back f s n m
+
+-- 0 is down, any other number up.
+abbrev pub upward : ℕ → Bool
+upward d = not (eqb d 0)
+
+-- A start of the program, over zeros; a refused program leaves the session.
+pub data BeginSays (f : List ℕ) (s : Session) (d : ℕ) (m : Outcome) : Type 0 where
+  refused : {n k : ℕ} → Says f (fault n k) → m ≡ made (numbers (Refused n k) 0) s → BeginSays f s d m
+  begun : {t : Tree} → Accepts f t → m ≡ made (numbers Done 0) (laid s (held (start t (direction (upward d)))) (cells t) (replicate (cells t) (pos 0)))
+      → BeginSays f s d m
+
+-- A session from saved bytes, for a store of the program's size; a refused reading leaves the session.
+pub data OpenSays (f bytes : List ℕ) (s : Session) (m : Outcome) : Type 0 where
+  refused : {σ : Store} {n k : ℕ} → ((t : Tree) → Accepts f t → length σ ≡ cells t) → ReadBefore f bytes σ n k → m ≡ made (numbers (Refused n k) 0) s → OpenSays f bytes s m
+  opened : {t : Tree} {p : Place} {q : Held} {σ : Store} → Reads bytes p σ → Ready f q σ t p → m ≡ made (numbers Done 0) (laid s q (cells t) σ) → OpenSays f bytes s m
+
+-- A save of the session's place and store: the bytes written are the count.
+pub data SavingSays (f : List ℕ) (s : Session) (buf : List ℕ) (a : Answer) (buf′ : List ℕ) : Type 0 where
+  over : {told : Told} → 2048 < s .count → OverSays f told → a ≡ numbers told 0 → buf′ ≡ buf → SavingSays f s buf a buf′
+  within : {told : Told} {written : ℕ} → s .count ≤ 2048 → SaveSays f (s .place) (storeOf s) buf told written buf′ → a ≡ numbers told written → SavingSays f s buf a buf′
+
+-- "An accepted file answers its counts of records, procedures and cells"; else the number and the record.
+abbrev pub counts : Given → Counts
+counts g = record { reason = g .number; label = g .label; records = g .records; procedures = g .procedures; cells = g .cells }
+
+pub data CheckSays (f : List ℕ) (c : Counts) : Type 0 where
+  said : {g : Given} → Says f g → c ≡ counts g → CheckSays f c

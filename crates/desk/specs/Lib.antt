@@ -1,0 +1,3 @@
+-- The definitions of `desk`.
+pub mod Desk
+pub mod Whole
