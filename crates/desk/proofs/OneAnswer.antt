@@ -3,17 +3,15 @@
 use Prim.Native.Nat.{ℕ, _<_, _≤_}
 use mathlib.Core.Bool.{Bool}
 use mathlib.Core.List.{List}
-use mathlib.Core.Path.{_≡_, refl, sym, ap, ap₂, _∙_, subst}
+use mathlib.Core.Path.{_≡_, refl, sym, ap, ap₂, _∙_}
 use native.Mathlib.Omega.{arith}
 use lib.IntN.{pos}
-use lib.ListN.{length, take, replicate}
+use lib.ListN.{length, replicate}
 use Rattle.codes.specs.Codes.{AllBytes}
-use Rattle.place.specs.declared.Place.{Place as Held}
 use Rattle.place.specs.Methods.{blankOf}
 use Rattle.place.specs.Slots.{held}
 use Rattle.program.specs.Trees.{Tree, cells, recordsOf, procedures}
 use Rattle.program.specs.Says.{Accepts, Says, accepted}
-use Rattle.program.specs.declared.Checked.{Checked}
 use Rattle.program.specs.declared.Checked.the-variants.{Accepted, Refused as RefusedFile}
 use Rattle.program.proofs.CheckSays.{determined, accepts-unique}
 use Rattle.moves.specs.Stores.{Store}
