@@ -4,7 +4,8 @@
 
    What a caller owes: each pointer points to as many bytes as its length says, or to a whole session; no pointer is null and
    what they point to does not overlap; where a length is 0 any pointer will do. Nothing else: any bytes and any session,
-   whatever its fields hold, get an answer. A refused call leaves the session and the buffer as they were, to the last byte. */
+   whatever its fields hold, get an answer. A call that is refused with a count of 0 leaves the session and the buffer as they
+   were, to the last byte; a run that is stopped after some steps leaves the session where it stopped. */
 #ifndef LADRUKHI_H
 #define LADRUKHI_H
 
@@ -44,7 +45,7 @@ struct ladrukhi_session {
 struct ladrukhi_answer {
     uint8_t reason; /* 0, or document 01's number: 1 to 8 the program, 20 to 23 the session, 30 to 34 a step */
     size_t record;  /* the record at fault for 1 to 8, else 0 */
-    size_t count;   /* steps made, or bytes written; 0 where it was refused */
+    size_t count;   /* steps made, or bytes written; 0 for a start and an opening */
 };
 
 /* What a check tells. */

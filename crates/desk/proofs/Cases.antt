@@ -22,15 +22,14 @@ use Rattle.machine.specs.Answers.{RunSays, StartSays, started, direction}
 use Rattle.machine.specs.Answers as machine
 use Rattle.machine.specs.declared.Told.{Told}
 use Rattle.machine.specs.declared.Told.the-variants.{Done, Refused}
-use Rattle.saved.specs.Answers.{ReadBefore, ReadSays, found, SaveSays}
+use Rattle.saved.specs.Answers.{ReadSays, found, SaveSays}
 use Rattle.saved.specs.Answers as saved
 use Rattle.desk.specs.declared.Session.{Session}
 use Rattle.desk.specs.declared.Answer.{Answer}
 use Rattle.desk.specs.declared.Outcome.{Outcome}
-use Rattle.desk.specs.declared.Counts.{Counts}
 use Rattle.desk.specs.Whole.{settling, Settles}
 use Rattle.desk.specs.Desk as desk
-use Rattle.desk.specs.Desk.{BeginSays, begun, upward, OpenSays, opened, SavingSays, counts, CheckSays, said, numbers, made, storeOf, laid, OverSays, program, size, way, MoveSays, over, within}
+use Rattle.desk.specs.Desk.{BeginSays, begun, upward, OpenSays, opened, SavingSays, CheckSays, said, numbers, made, storeOf, laid, OverSays, program, size, way, MoveSays, over, within}
 
 pub numbers-done : (t : Told) (n : ℕ) → t ≡ Done → record { reason = 0; label = 0; count = n } ≡ numbers t n
 numbers-done t n e = ap (λ (t : Told). numbers t n) (sym e)

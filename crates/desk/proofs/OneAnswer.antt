@@ -3,12 +3,11 @@
 use Prim.Native.Nat.{ℕ, _<_, _≤_}
 use mathlib.Core.Bool.{Bool}
 use mathlib.Core.List.{List}
-use mathlib.Core.Path.{_≡_, refl, sym, ap, ap₂, _∙_, subst}
+use mathlib.Core.Path.{_≡_, refl, sym, ap, ap₂, _∙_}
 use native.Mathlib.Omega.{arith}
 use lib.IntN.{pos}
-use lib.ListN.{length, take, replicate}
+use lib.ListN.{length, replicate}
 use Rattle.codes.specs.Codes.{AllBytes}
-use Rattle.place.specs.declared.Place.{Place as Held}
 use Rattle.place.specs.Methods.{blankOf}
 use Rattle.place.specs.Slots.{held}
 use Rattle.order.specs.Trees.{Tree, cells}

@@ -266,8 +266,9 @@ pub extern "C" fn ladrukhi_check(file: &[u8]) -> Counts
     }
 }
 
-// ---- over a session that is lent, for C too
+// ---- over a session that is lent, for C too: the session is copied, moved by value and stored
 
+// A start of the program, 0 down, else up.
 #[no_mangle]
 pub extern "C" fn ladrukhi_start(file: &[u8], session: &mut Session, direction: u32) -> Answer
     ensures { λ r. ⌜ BeginSays (now (file .entry)) (now (session .entry)) direction (made r (now (session .exit))) ⌝ }
@@ -277,6 +278,7 @@ pub extern "C" fn ladrukhi_start(file: &[u8], session: &mut Session, direction: 
     o.answer
 }
 
+// The session of a session file.
 #[no_mangle]
 pub extern "C" fn ladrukhi_open(file: &[u8], saved: &[u8], session: &mut Session) -> Answer
     ensures { λ r. ⌜ OpenSays (now (file .entry)) (now (saved .entry)) (now (session .entry)) (made r (now (session .exit))) ⌝ }
@@ -286,6 +288,7 @@ pub extern "C" fn ladrukhi_open(file: &[u8], saved: &[u8], session: &mut Session
     o.answer
 }
 
+// A step forward.
 #[no_mangle]
 pub extern "C" fn ladrukhi_step(file: &[u8], session: &mut Session) -> Answer
     ensures { λ r. ⌜ MoveSays false (now (file .entry)) (now (session .entry)) 1 (made r (now (session .exit))) ⌝ }
@@ -295,6 +298,7 @@ pub extern "C" fn ladrukhi_step(file: &[u8], session: &mut Session) -> Answer
     o.answer
 }
 
+// A step back.
 #[no_mangle]
 pub extern "C" fn ladrukhi_back(file: &[u8], session: &mut Session) -> Answer
     ensures { λ r. ⌜ MoveSays true (now (file .entry)) (now (session .entry)) 1 (made r (now (session .exit))) ⌝ }
@@ -304,6 +308,7 @@ pub extern "C" fn ladrukhi_back(file: &[u8], session: &mut Session) -> Answer
     o.answer
 }
 
+// At most n steps forward.
 #[no_mangle]
 pub extern "C" fn ladrukhi_run(file: &[u8], session: &mut Session, n: u32) -> Answer
     ensures { λ r. ⌜ MoveSays false (now (file .entry)) (now (session .entry)) n (made r (now (session .exit))) ⌝ }
@@ -313,6 +318,7 @@ pub extern "C" fn ladrukhi_run(file: &[u8], session: &mut Session, n: u32) -> An
     o.answer
 }
 
+// At most n steps back.
 #[no_mangle]
 pub extern "C" fn ladrukhi_run_back(file: &[u8], session: &mut Session, n: u32) -> Answer
     ensures { λ r. ⌜ MoveSays true (now (file .entry)) (now (session .entry)) n (made r (now (session .exit))) ⌝ }
@@ -322,6 +328,7 @@ pub extern "C" fn ladrukhi_run_back(file: &[u8], session: &mut Session, n: u32) 
     o.answer
 }
 
+// The session file of the session, into the buffer.
 #[no_mangle]
 pub extern "C" fn ladrukhi_save(file: &[u8], session: &Session, buffer: &mut [u8]) -> Answer
     ensures { λ r. ⌜ SavingSays (now (file .entry)) (now (session .entry)) (now (buffer .entry)) r (now (buffer .exit)) ⌝ }
