@@ -3,26 +3,26 @@
 --     files-differ       two saves of one file are of one place and store: different ones have different files
 --     one-file           one place and store has exactly one file that reads as it
 --     read-then-saved    what is read and saved again is the same bytes
+--     saved-beyond       the bytes after the written ones keep their values; where a save is refused, all of them
 use Prim.Native.Nat.{ℕ, _≤_, _<_}
 use mathlib.Core.Path.{_≡_, refl, sym, ap, _∙_, subst}
 use mathlib.Core.List.{List, _++_}
 use lib.ListN.{length, take, drop}
-use lib.Seq.{take-at}
+use lib.Seq.{take-at, drop-at}
 use native.Mathlib.Omega.{arith}
 use Rattle.codes.specs.Codes.{AllBytes}
 use Rattle.place.specs.declared.Place.{Place as Held}
 use Rattle.place.specs.Places.{Place}
 use Rattle.place.specs.Slots.{held, seen}
-use Rattle.place.proofs.Held.{held-injective, seen-held, length-frames}
+use Rattle.place.proofs.Held.{held-injective, seen-held}
 use Rattle.program.specs.Trees.{Tree, cells}
-use Rattle.moves.specs.Places.{Fits}
 use Rattle.moves.specs.Stores.{Store}
 use Rattle.fits.proofs.Few.{frames-few}
-use Rattle.session.specs.Session.{encode, LabelsFit, CellsFit, Fit, Reads}
+use Rattle.session.specs.Session.{encode, LabelsFit, CellsFit, Fit}
 use Rattle.session.proofs.Reading.{encode-injective}
 use Rattle.session.proofs.Round.{Numbers, labels-in}
 use Rattle.machine.specs.declared.Told.{Told}
-use Rattle.machine.specs.declared.Told.the-variants.{Done, Refused}
+use Rattle.machine.specs.declared.Told.the-variants.{Done}
 use Rattle.machine.specs.Answers as machine
 use Rattle.saved.specs.Answers.{ReadSays, refused, found, SaveSays, short, saved}
 use Rattle.saved.proofs.Counts.{cells-few}
@@ -82,3 +82,8 @@ files-differ {σ = σ} {σ′} nums nums′ vals vals′ x y e =
     let w = wrote x in let w′ = wrote y in
     let z = encode-injective (w .p) (w′ .p) σ σ′ (ready-fit nums vals (w .ready)) (ready-fit nums′ vals′ (w′ .ready)) (sym (w .is) ∙ e ∙ w′ .is) in
     (w .ready .holds ∙ ap held (z .0) ∙ sym (w′ .ready .holds), z .1)
+
+pub saved-beyond : {f : List ℕ} {q : Held} {σ : Store} {buf out : List ℕ} {n : ℕ} {a : Told} → SaveSays f q σ buf a n out → drop n out ≡ drop n buf
+saved-beyond {n = n} (refused b e₁ e₂ e₃) = ap (drop n) e₃
+saved-beyond {n = n} (short R h e₁ e₂ e₃) = ap (drop n) e₃
+saved-beyond {σ = σ} {buf} {n = n} (saved {p = p} R h e₁ e₂ e₃) = ap (drop n) e₃ ∙ drop-at (encode p σ) _ n (sym e₂) ∙ ap (λ (k : ℕ). drop k buf) (sym e₂)

@@ -1,132 +1,20 @@
-// Follows command lines that set and move one program, place and store, and writes a line for each move: the machine held to the second program's answers.
+// The stream of walks: the machine held to the second program's answers.
 ghost use mathlib.Core.Path.{_≡_};
-ghost use Prim.Native.Nat.{_≤_};
-ghost use lib.ListN.{length};
-ghost use Rattle.walk_lines.specs.Zeros.{zeros, noughts};
-use crate::line::command;
-use crate::line::field;
-use crate::line::next_line;
-use crate::line::past;
-use crate::line::steps;
-use crate::set::placed;
-use crate::set::programmed;
-use crate::set::slotted;
-use crate::set::stored;
-use crate::tell::tell;
+ghost use Rattle.lines.specs.Zeros.{zeros};
 use libc::STDIN_FILENO;
-use machine::Ran;
-use machine::Stepped;
-use machine::Told;
-use place::Place;
-
-mod line;
-mod set;
-mod tell;
-
-// More bytes than any file of the cases has.
-const ROOM: usize = 33000;
-
-// More cells than any store of the cases has.
-const CELLS: usize = 2200;
 
 // More bytes than all the cases have.
 const ALL: usize = 1048576;
 
 // Zeros, made apart so that no goal carries them.
-fn empty_file() -> [u8; ROOM]
-    ensures { λ r. ⌜ r ≡ zeros 33000 ⌝ }
-{
-    [0; ROOM]
-}
-
-fn empty_store() -> [i32; CELLS]
-    ensures { λ r. ⌜ r ≡ noughts 2200 ⌝ }
-{
-    [0; CELLS]
-}
-
 fn empty_input() -> [u8; ALL]
     ensures { λ r. ⌜ r ≡ zeros 1048576 ⌝ }
 {
     [0; ALL]
 }
 
-// `s D`: the answer's place, written too.
-fn started(s: &[u8], at: usize, file: &[u8], store: &[i32]) -> Place {
-    let d = field(s, past(s, at));
-    let r = machine::start(file, d.value == 1);
-    let told = r.told;
-    let place = r.place;
-    tell(told, 0, place, store);
-    place
-}
-
-// A step was made where it was not refused.
-fn made(told: Told) -> u32 {
-    match told {
-        Told::Done => 1,
-        Told::Refused(_, _) => 0,
-    }
-}
-
-fn stepped(r: Stepped, store: &[i32]) -> Place {
-    let told = r.told;
-    let place = r.place;
-    tell(told, made(told), place, store);
-    place
-}
-
-fn ran(r: Ran, store: &[i32]) -> Place {
-    let told = r.told;
-    let place = r.place;
-    tell(told, r.steps, place, store);
-    place
-}
-
-// The place after the line at `at`, which is written where the line moves.
-fn moved(s: &[u8], at: usize, file: &[u8], store: &mut [i32], place: Place) -> Place {
-    let c = command(s, at);
-    if c == b's' {
-        return started(s, at, file, store);
-    }
-    if c == b'f' {
-        let r = machine::step(file, place, store);
-        return stepped(r, store);
-    }
-    if c == b'b' {
-        let r = machine::back(file, place, store);
-        return stepped(r, store);
-    }
-    if c == b'r' {
-        let r = machine::run(file, place, store, steps(s, at));
-        return ran(r, store);
-    }
-    if c == b'q' {
-        let r = machine::run_back(file, place, store, steps(s, at));
-        return ran(r, store);
-    }
-    place
-}
-
-// Each line is offered to what sets and to what moves; only the one that it names takes it.
-fn answers(s: &[u8]) {
-    let mut file = empty_file();
-    let mut store = empty_store();
-    let mut place = Place::blank();
-    let mut size: usize = 0;
-    let mut cells: usize = 0;
-    let mut at: usize = 0;
-    while at < s.len() {
-        size = programmed(s, at, &mut file, size);
-        cells = stored(s, at, &mut store, cells);
-        place = slotted(s, at, placed(s, at, place));
-        place = moved(s, at, &file[..size], &mut store[..cells], place);
-        at = next_line(s, at);
-    }
-}
-
 fn main() {
     let mut input = empty_input();
     let n = io::read_full(STDIN_FILENO, &mut input);
-    answers(&input[..n]);
+    lines::answers(&input[..n]);
 }

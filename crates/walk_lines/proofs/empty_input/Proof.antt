@@ -1,6 +1,6 @@
 -- `walk_lines::empty_input` meets its contract. Assumes nothing.
 use mathlib.Core.Path.{refl}
-use Rattle.walk_lines.specs.Zeros.{zeros}
+use Rattle.lines.specs.Zeros.{zeros}
 use Rattle.walk_lines.proofs.empty_input.Statement.{statement}
 use Rattle.walk_lines.proofs.empty_input.Tie as tie
 

@@ -1,7 +1,7 @@
 -- `walk_lines::main` is safe: what was read lies within the buffer. Assumes nothing.
 use mathlib.Core.Path.{sym, ap, _∙_}
 use lib.ListN.{length}
-use Rattle.walk_lines.specs.Zeros.{length-zeros}
+use Rattle.lines.specs.Zeros.{length-zeros}
 use borrow.Author.Needs.{needs}
 use Rattle.walk_lines.proofs.main.Statement.{statement}
 use Rattle.walk_lines.proofs.main.Tie as tie

@@ -1,2 +1,0 @@
--- The definitions of `walk_lines`.
-pub mod Zeros
