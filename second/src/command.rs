@@ -2,6 +2,7 @@
 
 use crate::calls::read_session;
 use crate::check::{check, MAX_FILE};
+use crate::compare::compare;
 use crate::examples;
 use crate::machine::{run, run_back, Run};
 use crate::number::Refusal;
@@ -22,7 +23,7 @@ use std::process::ExitCode;
 pub const USAGE: &str = "usage: second run | check FILE | start FILE SESSION [down|up] | \
 step FILE SESSION [N] | back FILE SESSION [N] | set FILE SESSION CELL VALUE | \
 show FILE SESSION | vectors NAME | expect NAME | walks SEED COUNT | examples DIR | \
-workloads DIR | recheck N | sized BYTES";
+workloads DIR | recheck N | sized BYTES | compare BENCH SEED COUNT";
 
 /// The steps that `run` makes at most.
 const RUN_STEPS: u32 = 1_000_000;
@@ -86,6 +87,7 @@ enum Command {
     Workloads(PathBuf),
     Recheck(u32),
     Sized(u32),
+    Compare(PathBuf, u32, u32),
 }
 
 impl Command {
@@ -119,6 +121,9 @@ impl Command {
             ("workloads", [folder]) => Command::Workloads(folder.into()),
             ("recheck", [n]) => Command::Recheck(natural(n)?),
             ("sized", [bytes]) => Command::Sized(natural(bytes)?),
+            ("compare", [bench, seed, count]) => {
+                Command::Compare(bench.into(), natural(seed)?, natural(count)?)
+            }
             _ => return None,
         })
     }
@@ -139,6 +144,9 @@ impl Command {
             Command::Workloads(folder) => write_workloads(folder),
             Command::Recheck(n) => Ok(recheck(&mut read_standard_input()?, *n)),
             Command::Sized(bytes) => write_sized(*bytes),
+            Command::Compare(bench, seed, count) => compare(bench, *seed, *count)
+                .map(|compared| compared.text())
+                .map_err(|reason| file_trouble(bench, reason)),
         }
     }
 }

@@ -8,6 +8,7 @@ pub mod calls;
 pub mod cases;
 pub mod check;
 pub mod command;
+pub mod compare;
 pub mod damage;
 pub mod examples;
 pub mod expression;

@@ -1,5 +1,5 @@
 -- What can be said of a file that was read.
-use Prim.Native.Nat.{ℕ, _≤_}
+use Prim.Native.Nat.{ℕ, suc, _≤_}
 use lib.IntN.{ℤ}
 use Rattle.files.specs.declared.Got.{Got}
 use Rattle.files.specs.declared.Got.the-variants.{All, Failed}

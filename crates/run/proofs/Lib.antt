@@ -1,2 +1,3 @@
--- The laws of `run`.
+-- The laws of `run`: Determined for the reader, Running for the proofs here.
 pub mod Running
+pub mod Determined
