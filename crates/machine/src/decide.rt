@@ -425,6 +425,10 @@ pub fn decide(
     ensures { λ r. ⌜ Rules (ruleOf (now (file .entry)) (now (table .entry)) (now (arrays .entry)) s (now (store .entry))) r (now (store .exit)) ⌝ }
 {
     let d = s.direction;
+    // no label is above, so that what follows asks the table without a test
+    if 1024 <= s.b {
+        return s.refused(21);
+    }
     let at = offset(table, s.b);
     let kind = part(table, 1024, s.b);
     if kind == 4 {
