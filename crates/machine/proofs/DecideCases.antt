@@ -262,13 +262,13 @@ module _ (s : Spot) (k v : ℕ) (tab : List ℕ) (m : Move) where
 pub ruleset tests = (tested-stop, tested-if, tested-if-up, tested-fi, tested-fi-up, tested-from, tested-from-up, tested-until, tested-until-up)
 
 -- ---- `decide`
-module _ (f tab arr : List ℕ) (s : Spot) (σ : Store) (k at : ℕ) (kk : k ≡ lookIn tab (1024 + s .b)) (aa : at ≡ lookIn tab (s .b)) (m : Move) where
+module _ (f tab arr : List ℕ) (s : Spot) (σ : Store) (k at : ℕ) (kk : k ≡ lookIn tab (1024 + s .b)) (aa : at ≡ lookIn tab (s .b)) (m : Move) (nb : s .b < 1024) where
   abbrev Says : Store → Type 0
   Says τ = Rules (ruleOf f tab arr s σ) m τ
 
   pub rule-set : (n : ℕ) (τ : Store) → k ≡ 4 → m ≡ assignedOf s n tab → Leaves (setAt f at (s .direction) arr σ) σ n τ → Says τ
   unfolding ruleOf
-  rule-set n τ e h l = rw (← kk, eq-eqb k 4 e, ← aa) (go (setAt f at (s .direction) arr σ) l)
+  rule-set n τ e h l = rw (lt-ltb (s .b) 1024 nb, ← kk, eq-eqb k 4 e, ← aa) (go (setAt f at (s .direction) arr σ) l)
     where
       go : (x : Answer Store) → Leaves x σ n τ → Rules (afterSet s tab σ x) m τ
       go (ok σ′) l = record { made = h ∙ ap (λ n. assignedOf s n tab) (l .0); left = l .1 }
@@ -277,12 +277,12 @@ module _ (f tab arr : List ℕ) (s : Spot) (σ : Store) (k at : ℕ) (kk : k ≡
   module _ (n4 : k ≡ 4 → ⊥) where
     pub rule-skip : (next : ℕ) → k ≡ 13 → m ≡ keptOf s next → next ≡ alongOf tab (s .direction) (s .b) → Says σ
     unfolding ruleOf
-    rule-skip next e h n = rw (← kk, ne-eqb k 4 n4, eq-eqb k 13 e, ← n) (record { made = h; left = refl })
+    rule-skip next e h n = rw (lt-ltb (s .b) 1024 nb, ← kk, ne-eqb k 4 n4, eq-eqb k 13 e, ← n) (record { made = h; left = refl })
 
     module _ (n13 : k ≡ 13 → ⊥) where
       pub rule-call : (q : ℕ) → k ≡ 11 → m ≡ enteredOf s q (s .direction) tab → q ≡ word f (at + 4) → Says σ
       unfolding ruleOf
-      rule-call q e h n = rw (← kk, ne-eqb k 4 n4, ne-eqb k 13 n13, eq-eqb k 11 e, ← aa, ← n) (record { made = h; left = refl })
+      rule-call q e h n = rw (lt-ltb (s .b) 1024 nb, ← kk, ne-eqb k 4 n4, ne-eqb k 13 n13, eq-eqb k 11 e, ← aa, ← n) (record { made = h; left = refl })
 
       pub rule-led : k ≡ 11 → m ≡ enteredOf s (procAt f tab (s .b)) (s .direction) tab → Says σ
       rule-led e h = rule-call (procAt f tab (s .b)) e h (ap (λ (y : ℕ). word f (y + 4)) (sym aa))
@@ -290,7 +290,7 @@ module _ (f tab arr : List ℕ) (s : Spot) (σ : Store) (k at : ℕ) (kk : k ≡
       module _ (n11 : k ≡ 11 → ⊥) where
         pub rule-uncall : (q d : ℕ) → k ≡ 12 → m ≡ enteredOf s q d tab → d ≡ otherOf (s .direction) → q ≡ word f (at + 4) → Says σ
         unfolding ruleOf
-        rule-uncall q d e h dd n = rw (← kk, ne-eqb k 4 n4, ne-eqb k 13 n13, ne-eqb k 11 n11, eq-eqb k 12 e, ← aa, ← n, ← dd) (record { made = h; left = refl })
+        rule-uncall q d e h dd n = rw (lt-ltb (s .b) 1024 nb, ← kk, ne-eqb k 4 n4, ne-eqb k 13 n13, ne-eqb k 11 n11, eq-eqb k 12 e, ← aa, ← n, ← dd) (record { made = h; left = refl })
 
         pub rule-unled : (d : ℕ) → k ≡ 12 → m ≡ enteredOf s (procAt f tab (s .b)) d tab → d ≡ otherOf (s .direction) → Says σ
         rule-unled d e h dd = rule-uncall (procAt f tab (s .b)) d e h dd (ap (λ (y : ℕ). word f (y + 4)) (sym aa))
@@ -298,10 +298,14 @@ module _ (f tab arr : List ℕ) (s : Spot) (σ : Store) (k at : ℕ) (kk : k ≡
         module _ (n12 : k ≡ 12 → ⊥) where
           pub rule-return : k ≤ 3 → m ≡ returnedOf s tab → Says σ
           unfolding ruleOf
-          rule-return e h = rw (← kk, ne-eqb k 4 n4, ne-eqb k 13 n13, ne-eqb k 11 n11, ne-eqb k 12 n12, le-leb k 3 e) (record { made = h; left = refl })
+          rule-return e h = rw (lt-ltb (s .b) 1024 nb, ← kk, ne-eqb k 4 n4, ne-eqb k 13 n13, ne-eqb k 11 n11, ne-eqb k 12 n12, le-leb k 3 e) (record { made = h; left = refl })
 
           pub rule-test : (v : ℕ) → 3 < k → m ≡ testedOf s k v tab → v ≡ truthOf (worthAt arr σ (parse 16 f (at + 4))) → Says σ
           unfolding ruleOf
-          rule-test v e h n = rw (← kk, ne-eqb k 4 n4, ne-eqb k 13 n13, ne-eqb k 11 n11, ne-eqb k 12 n12, lt-leb k 3 e, ← aa, ← n) (record { made = h; left = refl })
+          rule-test v e h n = rw (lt-ltb (s .b) 1024 nb, ← kk, ne-eqb k 4 n4, ne-eqb k 13 n13, ne-eqb k 11 n11, ne-eqb k 12 n12, lt-leb k 3 e, ← aa, ← n) (record { made = h; left = refl })
 
-pub ruleset rules = (rule-set, rule-skip, rule-led, rule-unled, rule-return, rule-test)
+pub rule-far : (f tab arr : List ℕ) (s : Spot) (σ : Store) (m : Move) → 1024 ≤ s .b → m ≡ refusedOf s 21 → Rules (ruleOf f tab arr s σ) m σ
+unfolding ruleOf
+rule-far f tab arr s σ m h e = rw (le-ltb (s .b) 1024 h) (record { made = e; left = refl })
+
+pub ruleset rules = (rule-far, rule-set, rule-skip, rule-led, rule-unled, rule-return, rule-test)

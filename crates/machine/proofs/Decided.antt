@@ -83,14 +83,14 @@ module _ {f : List ℕ} {t : Tree} (A : Accepts f t) {tab : List ℕ} (T : Table
   truth-fate fs σ S k (stop byZero) K hy hn = (refl, refl)
   truth-fate fs σ S k (stop outside) K hy hn = (refl, refl)
 
-  pub test-fate : (fs : List Frame) (σ : Store) (S : Spot) (k : ℕ) (e : Expr) (K : Bool → Answer (Cut × Store)) → lookIn tab (1024 + S .b) ≡ k → 4 < k → k < 11
+  pub test-fate : (fs : List Frame) (σ : Store) (S : Spot) (k : ℕ) (e : Expr) (K : Bool → Answer (Cut × Store)) → (S .b < 1024) × (lookIn tab (1024 + S .b) ≡ k) → 4 < k → k < 11
       → parse 16 f (lookIn tab (S .b) + 4) .tree ≡ e
       → Fate P fs σ (ruled (testedOf S k 1 tab) σ) (K true) → Fate P fs σ (ruled (testedOf S k 0 tab) σ) (K false)
       → Fate P fs σ (ruleOf f tab arr S σ) (bind (holds t σ e) K)
   unfolding holds evaluated
   test-fate fs σ S k e K kk lo hi tree hy hn =
       fate-of P fs σ (ruleOf f tab arr S σ) (testedOf S k (truthOf (eval (layout t) σ e)) tab) σ (bind (holds t σ e) K)
-      (rule-test f tab arr S σ k (lookIn tab (S .b)) (sym kk) refl (testedOf S k (truthOf (eval (layout t) σ e)) tab) (λ e. omega arith) (λ e. omega arith) (λ e. omega arith) (λ e. omega arith) (truthOf (eval (layout t) σ e)) (omega arith) refl
+      (rule-test f tab arr S σ k (lookIn tab (S .b)) (sym (kk .1)) refl (testedOf S k (truthOf (eval (layout t) σ e)) tab) (kk .0) (λ e. omega arith) (λ e. omega arith) (λ e. omega arith) (λ e. omega arith) (truthOf (eval (layout t) σ e)) (omega arith) refl
       (ap truthOf (sym (ap (eval (arraysOf arr) σ) tree ∙ worth-is t arr G σ e))))
       (truth-fate fs σ S k (eval (layout t) σ e) K hy hn)
 

@@ -27,7 +27,7 @@ use Rattle.machine.specs.declared.decide.Move.{Move}
 use Rattle.machine.specs.Decide.{lookIn, alongOf, keptOf, pushedOf, poppedOf, changedOf, chosenOf, closedOf, againOf, headIn, middleIn, openedOf, repeatedOf, testedOf, assignedOf, Ruled, ruled, Rules, afterSet, ruleOf}
 use Rattle.machine.specs.Sets.{Leaves, setAt}
 use Rattle.machine.proofs.DecideCases.{rule-set, rule-skip}
-use Rattle.machine.proofs.Labels.{inside}
+use Rattle.machine.proofs.Labels.{small, inside}
 use Rattle.machine.proofs.Landing.{topKind, topLabel, spotAt, again-is, Fate, keeps, pushes, pops, changes}
 use Rattle.machine.proofs.Sets.{Agrees, set-is}
 use Rattle.machine.proofs.Decided.{w, fate-of, kind-at, head-at, record-is, middle-at, tail-at, test-fate, tree-if, tree-fi, tree-from, tree-until, close-then, close-else, open-out, open-in}
@@ -75,11 +75,14 @@ module _ {f : List ℕ} {t : Tree} (A : Accepts f t) {tab : List ℕ} (T : Table
       simple : met g d < length (recordsOf t)
       simple = inside A (F .q) (met g d) (lo-met t P g d cs F) (hi-met t P g d cs F)
 
+      low : met g d < 1024
+      low = let s = small A in let h = simple in omega arith
+
       pub skip-fate : P .at (met g d) ≡ skipL → side (P .at (met g d)) (met g d) (opp d) ≡ met g d → Does g d cs (met g d) σ (ok (leave (met g d) d cs, σ))
       unfolding kind
       skip-fate e s =
           fate-of P (frames g cs) σ (ruleOf f tab arr (spotAt (frames g cs) d cs (met g d)) σ) (keptOf (spotAt (frames g cs) d cs (met g d)) (alongOf tab (dirNumber d) (met g d))) σ (ok (leave (met g d) d cs, σ))
-          (rule-skip f tab arr (spotAt (frames g cs) d cs (met g d)) σ 13 (lookIn tab (met g d)) (sym (kind-at A T G (met g d) simple skipL e)) refl (keptOf (spotAt (frames g cs) d cs (met g d)) (alongOf tab (dirNumber d) (met g d))) (λ z. omega arith) (alongOf tab (dirNumber d) (met g d)) refl refl refl)
+          (rule-skip f tab arr (spotAt (frames g cs) d cs (met g d)) σ 13 (lookIn tab (met g d)) (sym (kind-at A T G (met g d) simple skipL e)) refl (keptOf (spotAt (frames g cs) d cs (met g d)) (alongOf tab (dirNumber d) (met g d))) low (λ z. omega arith) (alongOf tab (dirNumber d) (met g d)) refl refl refl)
           (keeps A T g d cs F (met g d) (met g d) (met g d) (fit1 t P g d cs F k) (pos1 t P g d cs F k) s refl σ (encl-left t (w A T G) g d k))
 
       pub set-fate : (o : ℕ) (x : Target) (e : Expr) → P .at (met g d) ≡ setL o x e → side (P .at (met g d)) (met g d) (opp d) ≡ met g d
@@ -88,7 +91,7 @@ module _ {f : List ℕ} {t : Tree} (A : Accepts f t) {tab : List ℕ} (T : Table
       set-fate o x e q s = go (assigned t o x e d σ) (set-is t arr G σ f (lookIn tab (met g d)) d o x e (record-is A T G (met g d) simple (setL o x e) q))
         where
           rules : (n : ℕ) (τ : Store) → Leaves (setAt f (lookIn tab (met g d)) (dirNumber d) arr σ) σ n τ → Rules (ruleOf f tab arr (spotAt (frames g cs) d cs (met g d)) σ) (assignedOf (spotAt (frames g cs) d cs (met g d)) n tab) τ
-          rules n τ l = rule-set f tab arr (spotAt (frames g cs) d cs (met g d)) σ 4 (lookIn tab (met g d)) (sym (kind-at A T G (met g d) simple (setL o x e) q)) refl (assignedOf (spotAt (frames g cs) d cs (met g d)) n tab) n τ refl refl l
+          rules n τ l = rule-set f tab arr (spotAt (frames g cs) d cs (met g d)) σ 4 (lookIn tab (met g d)) (sym (kind-at A T G (met g d) simple (setL o x e) q)) refl (assignedOf (spotAt (frames g cs) d cs (met g d)) n tab) low n τ refl refl l
 
           go : (a : Answer Store) → setAt f (lookIn tab (met g d)) (dirNumber d) arr σ ≡ a → Does g d cs (met g d) σ (bind a (λ σ′. ok (leave (met g d) d cs, σ′)))
           go (ok τ) h =
@@ -105,8 +108,8 @@ module _ {f : List ℕ} {t : Tree} (A : Accepts f t) {tab : List ℕ} (T : Table
       abbrev S : Spot
       S = spotAt (frames g cs) d cs b
 
-      kinds : (ρ : Rec) → P .at b ≡ ρ → lookIn tab (1024 + b) ≡ kind (forget ρ)
-      kinds ρ e = kind-at A T G b (there c k lo hi b lb br) ρ e
+      kinds : (ρ : Rec) → P .at b ≡ ρ → (b < 1024) × (lookIn tab (1024 + b) ≡ kind (forget ρ))
+      kinds ρ e = let h = there c k lo hi b lb br in let s = small A in (omega arith, kind-at A T G b h ρ e)
 
       reads : (ρ : Rec) → P .at b ≡ ρ → recordAs (kind (forget ρ)) f (lookIn tab b) ≡ forget ρ
       reads ρ e = record-is A T G b (there c k lo hi b lb br) ρ e

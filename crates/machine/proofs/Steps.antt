@@ -38,7 +38,7 @@ use Rattle.machine.specs.Decide.{lookIn, otherOf, enteredOf, returnedOf,
 use Rattle.machine.specs.Walk.{spotOf, afterOf, Gone, gone, goOf}
 use Rattle.machine.proofs.DecideCases.{rule-call, rule-uncall, rule-return}
 use Rattle.machine.proofs.Room.{room}
-use Rattle.machine.proofs.Labels.{inside}
+use Rattle.machine.proofs.Labels.{small, inside}
 use Rattle.machine.proofs.Landing.{topKind, topLabel, spotAt, Fate}
 use Rattle.machine.proofs.Sets.{Agrees}
 use Rattle.machine.proofs.Decided.{w, fate-of, kind-at, record-is}
@@ -78,11 +78,14 @@ module _ {f : List ℕ} {t : Tree} (A : Accepts f t) {tab : List ℕ} (T : Table
     here : met g d < length (recordsOf t)
     here = inside A (F .q) (met g d) (lo-met t P g d cs F) (hi-met t P g d cs F)
 
+    low : met g d < 1024
+    low = let s = small A in let h = here in omega arith
+
     -- a return
     returning : (k : ℕ) → lookIn tab (1024 + met g d) ≡ k → k ≤ 3 → P .encl g ≡ [] → Does g d cs (met g d) σ (through t P return′ (met g d) d cs σ)
     returning k e h en =
         fate-of P (frames g cs) σ (ruleOf f tab arr S σ) (returnedOf S tab) σ (through t P return′ (met g d) d cs σ)
-        (rule-return f tab arr S σ k (lookIn tab (met g d)) (sym e) refl (returnedOf S tab) (λ z. omega arith) (λ z. omega arith) (λ z. omega arith) (λ z. omega arith) h refl)
+        (rule-return f tab arr S σ k (lookIn tab (met g d)) (sym e) refl (returnedOf S tab) low (λ z. omega arith) (λ z. omega arith) (λ z. omega arith) (λ z. omega arith) h refl)
         (return-fate A T G g d (met g d) σ en (F .q) cs (F .good) (F .few))
 
     -- a call
@@ -91,7 +94,7 @@ module _ {f : List ℕ} {t : Tree} (A : Accepts f t) {tab : List ℕ} (T : Table
     calling q e (k, o) =
         let n = o .near (F .q) (lo-met t P g d cs F) (hi-met t P g d cs F) in
         fate-of P (frames g cs) σ (ruleOf f tab arr S σ) (enteredOf S q (dirNumber d) tab) σ (through t P (enter′ q d) (met g d) d cs σ)
-        (rule-call f tab arr S σ 11 (lookIn tab (met g d)) (sym (kind-at A T G (met g d) here (callL q) e)) refl (enteredOf S q (dirNumber d) tab) (λ z. omega arith) (λ z. omega arith) q refl refl
+        (rule-call f tab arr S σ 11 (lookIn tab (met g d)) (sym (kind-at A T G (met g d) here (callL q) e)) refl (enteredOf S q (dirNumber d) tab) low (λ z. omega arith) (λ z. omega arith) q refl refl
         (call-number (lookIn tab (met g d)) q (record-is A T G (met g d) here (callL q) e)))
         (enter-fate A T G g d cs σ F q d k o (call-there A T G (met g d) q here e) (λ h. fit-gate t P q k (met g d ∷ cs) (by-call e (n .0) (n .1) (F .good)) h d))
 
@@ -100,7 +103,7 @@ module _ {f : List ℕ} {t : Tree} (A : Accepts f t) {tab : List ℕ} (T : Table
     uncalling q e (k, o) =
         let n = o .near (F .q) (lo-met t P g d cs F) (hi-met t P g d cs F) in
         fate-of P (frames g cs) σ (ruleOf f tab arr S σ) (enteredOf S q (dirNumber (opp d)) tab) σ (through t P (enter′ q (opp d)) (met g d) d cs σ)
-        (rule-uncall f tab arr S σ 12 (lookIn tab (met g d)) (sym (kind-at A T G (met g d) here (uncallL q) e)) refl (enteredOf S q (dirNumber (opp d)) tab) (λ z. omega arith) (λ z. omega arith) (λ z. omega arith) q (dirNumber (opp d)) refl refl (sym (other-is d))
+        (rule-uncall f tab arr S σ 12 (lookIn tab (met g d)) (sym (kind-at A T G (met g d) here (uncallL q) e)) refl (enteredOf S q (dirNumber (opp d)) tab) low (λ z. omega arith) (λ z. omega arith) (λ z. omega arith) q (dirNumber (opp d)) refl refl (sym (other-is d))
         (uncall-number (lookIn tab (met g d)) q (record-is A T G (met g d) here (uncallL q) e)))
         (enter-fate A T G g d cs σ F q (opp d) k o (uncall-there A T G (met g d) q here e) (λ h. fit-gate t P q k (met g d ∷ cs) (by-uncall e (n .0) (n .1) (F .good)) h (opp d)))
 

@@ -139,11 +139,14 @@ abbrev pub afterSet : Spot → List ℕ → Store → Answer Store → Ruled
 afterSet s tab σ (ok σ′) = ruled (assignedOf s 0 tab) σ′
 afterSet s tab σ (no q) = ruled (assignedOf s (number q) tab) σ
 
+-- no label is 1,024 or above, and no fitting place comes to one
 unfoldable pub ruleOf : List ℕ → List ℕ → List ℕ → Spot → Store → Ruled
 ruleOf f tab arr s σ =
-    cond (eqb (lookIn tab (1024 + s .b)) 4) (afterSet s tab σ (setAt f (lookIn tab (s .b)) (s .direction) arr σ))
+    cond (ltb (s .b) 1024)
+    (cond (eqb (lookIn tab (1024 + s .b)) 4) (afterSet s tab σ (setAt f (lookIn tab (s .b)) (s .direction) arr σ))
     (cond (eqb (lookIn tab (1024 + s .b)) 13) (ruled (keptOf s (alongOf tab (s .direction) (s .b))) σ)
     (cond (eqb (lookIn tab (1024 + s .b)) 11) (ruled (enteredOf s (word f (lookIn tab (s .b) + 4)) (s .direction) tab) σ)
     (cond (eqb (lookIn tab (1024 + s .b)) 12) (ruled (enteredOf s (word f (lookIn tab (s .b) + 4)) (otherOf (s .direction)) tab) σ)
     (cond (leb (lookIn tab (1024 + s .b)) 3) (ruled (returnedOf s tab) σ)
-    (ruled (testedOf s (lookIn tab (1024 + s .b)) (truthOf (worthAt arr σ (parse 16 f (lookIn tab (s .b) + 4)))) tab) σ)))))
+    (ruled (testedOf s (lookIn tab (1024 + s .b)) (truthOf (worthAt arr σ (parse 16 f (lookIn tab (s .b) + 4)))) tab) σ))))))
+    (ruled (refusedOf s 21) σ)

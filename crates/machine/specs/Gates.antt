@@ -21,3 +21,8 @@ GateAt f tab d g x =
 
 pub record Gated (f tab : List ℕ) (d : ℕ) (g : List ℕ) : Type 0 where
   pub at : (x : ℕ) → x < 1024 → GateAt f tab d g x
+
+-- an array for each direction
+pub record Leads (f tab downs ups : List ℕ) : Type 0 where
+  pub down : Gated f tab 0 downs
+  pub up : Gated f tab 1 ups

@@ -6,7 +6,7 @@ ghost use mathlib.Core.Path.{_≡_};
 ghost use Prim.Native.Nat.{_+_, _<_};
 ghost use Rattle.expr.specs.Answers.{worthAt};
 ghost use Rattle.expr.specs.Bytes.{parse};
-ghost use Rattle.machine.specs.Gates.{procAt, Gated};
+ghost use Rattle.machine.specs.Gates.{procAt, Gated, Leads};
 ghost use Rattle.machine.specs.Decide.{lookIn, moreOf, fewerOf, alongOf, gateOf, resumedOf, againOf, otherOf, truthOf, refusedOf, keptOf, pushedOf, poppedOf, changedOf, chosenOf, closedOf, openedOf, repeatedOf, enteredTo, enteredOf, returnedOf, testedOf, assignedOf, Rules, ruleOf};
 
 // Where a step stands: the direction, the record met, how many frames are calls, how many there are, and the innermost one (kind 9: none).
@@ -332,8 +332,7 @@ impl Spot {
         downs: &[u16; 2048],
         ups: &[u16; 2048],
     ) -> Move
-        requires { ⌜ Gated (now file) (now table) 0 (now downs) ⌝ }
-        requires { ⌜ Gated (now file) (now table) 1 (now ups) ⌝ }
+        requires { ⌜ Leads (now file) (now table) (now downs) (now ups) ⌝ }
         ensures { λ r. ⌜ r ≡ enteredOf self (procAt (now (file .entry)) (now (table .entry)) (self .b)) direction (now (table .entry)) ⌝ }
     {
         if direction == 0 {
@@ -420,11 +419,14 @@ pub fn decide(
     arrays: &[u16; 32],
     store: &mut [i32],
 ) -> Move
-    requires { ⌜ Gated (now file) (now table) 0 (now downs) ⌝ }
-    requires { ⌜ Gated (now file) (now table) 1 (now ups) ⌝ }
+    requires { ⌜ Leads (now file) (now table) (now downs) (now ups) ⌝ }
     ensures { λ r. ⌜ Rules (ruleOf (now (file .entry)) (now (table .entry)) (now (arrays .entry)) s (now (store .entry))) r (now (store .exit)) ⌝ }
 {
     let d = s.direction;
+    // no label is above, so that what follows asks the table without a test
+    if 1024 <= s.b {
+        return s.refused(21);
+    }
     let at = offset(table, s.b);
     let kind = part(table, 1024, s.b);
     if kind == 4 {

@@ -6,7 +6,7 @@ use place::top_of;
 ghost use mathlib.Core.Path.{_≡_};
 ghost use Prim.Native.Nat.{_≤_};
 ghost use Rattle.machine.specs.Decide.{ruleOf};
-ghost use Rattle.machine.specs.Gates.{Gated};
+ghost use Rattle.machine.specs.Gates.{Leads};
 ghost use Rattle.machine.specs.Walk.{putIn, callsIn, callsOf, spotIn, endedIn, goOf, Goes};
 
 // How far it went: why it stopped (0: all steps were made), how many were made, and where it is.
@@ -113,8 +113,7 @@ pub fn go(
     calls: u16,
     n: u32,
 ) -> Went
-    requires { ⌜ Gated (now file) (now table) 0 (now downs) ⌝ }
-    requires { ⌜ Gated (now file) (now table) 1 (now ups) ⌝ }
+    requires { ⌜ Leads (now file) (now table) (now downs) (now ups) ⌝ }
     ensures { λ r. ⌜ Goes (goOf (ruleOf (now (file .entry)) (now (table .entry)) (now (arrays .entry))) n place calls (now (store .entry)) 0) r (now (store .exit)) ⌝ }
 {
     let mut kinds = place.kinds;

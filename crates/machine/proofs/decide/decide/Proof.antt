@@ -9,6 +9,8 @@ decide-spec =
     tie.close
     (tie.spec
     (λ c κs. search needs)
+    (λ c. search rules)
+    (λ c κs. search needs)
     (λ c κs. search needs)
     (λ c κs. search needs)
     (λ c κs. search needs)
