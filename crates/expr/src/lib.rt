@@ -121,8 +121,7 @@ fn simple(s: &[u8], at: &mut usize, left: usize, cells: &[i32], arrays: &[u16; 3
     OTHER
 }
 
-// The same for those and for an operator on two of them; else OTHER, and `*at` anywhere. It hands its slices to no call,
-// so that none is put in memory: that is what makes most evaluations fast.
+// The same for those and for an operator on two of them; else OTHER, and `*at` anywhere.
 fn leaf(s: &[u8], at: &mut usize, left: usize, cells: &[i32], arrays: &[u16; 32]) -> i64
     ensures { λ r. ⌜ Tried (worthAt (now (arrays .entry)) (now (cells .entry)) (parse left (now (s .entry)) (now (at .entry)))) (parse left (now (s .entry)) (now (at .entry)) .next) r (now (at .exit)) ⌝ }
 {
