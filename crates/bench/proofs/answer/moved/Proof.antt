@@ -1,4 +1,6 @@
 -- `bench::answer::moved` meets its contract. Assumes nothing.
+use Rattle.print.proofs.Rows.{joined}
+use Rattle.bench.proofs.Answering.{saves}
 use Rattle.bench.proofs.Rooms.{next, begun}
 use borrow.Author.Needs.{needs}
 use Rattle.bench.proofs.answer.moved.Statement.{statement}
@@ -39,7 +41,9 @@ same-length-2 c = search needs
 
 -- src/answer.rt:105:1
 returns : tie.Need-returns
-returns c = search needs
+returns c =
+    let q = c .before .before .before .before .before .before .before .before .before .before .before .before .before in
+    (search needs, saves (c .before .before .before .before .saved .result) (c .before .before .before .before .saved .ensures .1) (joined _ _ _ _ _ _ _ _ (rw (q .before .reason .ensures) at (q .put-steps .ensures)) (c .before .before .before .before .before .before .before .before .before .put-at .ensures)))
 
 pub moved-spec : {M : Type 1} → statement M
 moved-spec =

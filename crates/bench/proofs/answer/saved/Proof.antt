@@ -1,4 +1,5 @@
 -- `bench::answer::saved` meets its contract. Assumes nothing.
+use Rattle.bench.proofs.Answering.{keeps-refused, keeps-done}
 use Rattle.bench.proofs.Rooms.{rests}
 use borrow.Author.Needs.{needs}
 use Rattle.bench.proofs.answer.saved.Statement.{statement}
@@ -34,7 +35,9 @@ same-length-2 c = search needs
 
 -- src/answer.rt:52:1
 returns : tie.Need-returns
-returns c = search needs
+returns c =
+    let p = c .before .before .refused in
+    (search needs, keeps-refused (p .result) (c .before .before .before .before .before .before .before .before .before .before .save .ensures) (c .before .before .before .before .before .before .told .given .1) (p .ensures .1 .none) (p .ensures .1 .right))
 
 -- src/answer.rt:52:1
 same-length-3 : tie.Need-same-length-3
@@ -42,7 +45,7 @@ same-length-3 c = search needs
 
 -- src/answer.rt:52:1
 returns-2 : tie.Need-returns-2
-returns-2 c = record { session = rests (c .before .before .before .before .save .ensures); lines = c .before .before .before .before .before .before .before .before .before .pre }
+returns-2 c = (record { session = rests (c .before .before .before .before .save .ensures); lines = c .before .before .before .before .before .before .before .before .before .pre }, keeps-done (c .before .before .before .before .save .ensures) (c .enum-told .given .1))
 
 pub saved-spec : {M : Type 1} → statement M
 saved-spec =

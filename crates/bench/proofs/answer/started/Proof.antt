@@ -1,4 +1,5 @@
 -- `bench::answer::started` meets its contract. Assumes nothing.
+use Rattle.bench.proofs.Answering.{start-refused, start-done, saves}
 use Rattle.bench.proofs.Rooms.{begun}
 use borrow.Author.Needs.{needs}
 use Rattle.bench.proofs.answer.started.Statement.{statement}
@@ -44,7 +45,7 @@ same-length-2 c = search needs
 
 -- src/answer.rt:76:1
 returns : tie.Need-returns
-returns c = search needs
+returns c = (search needs, start-refused (c .before .before .before .before .before .before .told .given .1) (c .before .before .before .before .before .before .before .before .before .start .ensures) (c .before .before .refused .ensures .1))
 
 -- src/answer.rt:76:1
 same-length-3 : tie.Need-same-length-3
@@ -56,7 +57,8 @@ same-length-4 c = search needs
 
 -- src/answer.rt:76:1
 returns-2 : tie.Need-returns-2
-returns-2 c = search needs
+returns-2 c =
+    (search needs, start-done (c .before .before .before .before .before .before .before .before .before .before .before .enum-told .given .1) (c .before .before .before .before .before .before .before .before .before .before .before .before .before .before .start .ensures) (saves (c .before .before .before .before .saved .result) (c .before .before .before .before .saved .ensures .1) (c .before .before .before .before .before .before .before .before .before .put-at .ensures)))
 
 pub started-spec : {M : Type 1} → statement M
 started-spec =
