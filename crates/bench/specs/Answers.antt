@@ -6,6 +6,8 @@ use mathlib.Core.List.{List, [], _++_}
 use lib.IntN.{ℤ}
 use lib.ListN.{length, set}
 use Rattle.place.specs.declared.Place.{Place as Held}
+use Rattle.program.specs.declared.Checked.{Checked}
+use Rattle.program.specs.declared.Checked.the-variants.{Accepted, Refused as RefusedFile}
 use Rattle.moves.specs.Places.{Dir}
 use Rattle.moves.specs.Stores.{Store}
 use Rattle.moves.specs.Runs.{run as running, runBack}
@@ -13,7 +15,7 @@ use Rattle.machine.specs.declared.Told.{Told}
 use Rattle.machine.specs.declared.Told.the-variants.{Done, Refused}
 use Rattle.machine.specs.Answers.{StartSays, RunSays}
 use Rattle.saved.specs.Answers.{ReadSays, SaveSays}
-use Rattle.print.specs.Lines.{putAll, afterAll, refusedLine, stepsLine, atLine, frameLines, cellLines}
+use Rattle.print.specs.Lines.{putAll, afterAll, refusedLine, acceptedLine, stepsLine, atLine, frameLines, cellLines}
 use Rattle.bench.specs.declared.answer.Answer.{Answer}
 use Rattle.bench.specs.declared.command.Deed.{Deed}
 use Rattle.bench.specs.declared.command.Deed.the-variants.{Step, Back, Set, Show}
@@ -21,6 +23,11 @@ use Rattle.bench.specs.declared.command.Deed.the-variants.{Step, Back, S
 -- The lines ws stand at the start of the text, which was b and is c afterwards; n is the position after them.
 abbrev pub Text : List ℕ → List (List ℕ) → List ℕ → ℕ → Type 0
 Text b ws c n = (n ≡ afterAll b 0 ws) × (c ≡ putAll b 0 ws)
+
+-- `check`: the counts, or the refusal
+abbrev pub checkedLine : Checked → List (List ℕ)
+checkedLine (Accepted r p c) = acceptedLine r p c
+checkedLine (RefusedFile n k) = refusedLine n k
 
 -- No session, and these lines.
 pub record Says (b text : List ℕ) (ws : List (List ℕ)) (r : Answer) (b′ text′ : List ℕ) : Type 0 where

@@ -2,10 +2,11 @@
 ghost use mathlib.Core.Path.{_≡_};
 ghost use Prim.Native.Nat.{_≤_};
 ghost use lib.ListN.{length};
+ghost use Rattle.program.specs.Check.{checkOf};
 ghost use Rattle.machine.specs.Answers.{direction};
 ghost use Rattle.print.specs.Lines.{refusedLine};
 ghost use Rattle.bench.specs.Room.{Room};
-ghost use Rattle.bench.specs.Answers.{Says, Saves, Keeps, Starts, Does, Answers, movedLines, shownLines, reasonOf};
+ghost use Rattle.bench.specs.Answers.{Text, checkedLine, Says, Saves, Keeps, Starts, Does, Answers, movedLines, shownLines, reasonOf};
 ghost use Rattle.bench.specs.declared.command.Deed.the-variants.{Set};
 use crate::command::Deed;
 use machine::Ran;
@@ -34,6 +35,7 @@ fn refused(number: u8, label: usize, buffer: &[u8], text: &mut [u8]) -> Answer
 // `check`
 pub fn checked(file: &[u8], text: &mut [u8]) -> usize
     ensures { λ r. ⌜ r ≤ length (now (text .entry)) ⌝ }
+    ensures { λ r. ⌜ Text (now (text .entry)) (checkedLine (checkOf (now (file .entry)))) (now (text .exit)) r ⌝ }
 {
     match program::check(file) {
         Checked::Refused(number, label) => print::put_refused(text, 0, number, label),

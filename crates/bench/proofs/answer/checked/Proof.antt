@@ -1,4 +1,5 @@
 -- `bench::answer::checked` meets its contract. Assumes nothing.
+use mathlib.Core.Path.{sym, _∙_}
 use Rattle.bench.proofs.Rooms.{first}
 use borrow.Author.Needs.{needs}
 use Rattle.bench.proofs.answer.checked.Statement.{statement}
@@ -35,7 +36,10 @@ same-length c = search needs
 
 -- src/answer.rt:30:1
 returns : tie.Need-returns
-returns c = first _ _ _ (c .before .before .put-refused .ensures .0)
+returns c =
+    let p = c .before .before in
+    let m = p .before .before .before in
+    (first _ _ _ (p .put-refused .ensures .0), rw (sym (m .before .before .check .ensures) ∙ m .number .given .1) (p .put-refused .ensures))
 
 -- src/answer.rt:30:1
 same-length-2 : tie.Need-same-length-2
@@ -43,7 +47,10 @@ same-length-2 c = search needs
 
 -- src/answer.rt:30:1
 returns-2 : tie.Need-returns-2
-returns-2 c = first _ _ _ (c .before .before .put-accepted .ensures .0)
+returns-2 c =
+    let p = c .before .before in
+    let m = p .before .before .before in
+    (first _ _ _ (p .put-accepted .ensures .0), rw (sym (m .before .before .check .ensures) ∙ m .records .given .1) (p .put-accepted .ensures))
 
 pub checked-spec : {M : Type 1} → statement M
 checked-spec =

@@ -100,8 +100,7 @@ same-length-9 c = search needs
 -- src/answer.rt:161:1
 returns-3 : tie.Need-returns-3
 returns-3 c =
-    let v = c .before .before .before .before .before .before .before .before .before .before .deed3 .given .0 .1 .0 in
-    (
+    let v = c .before .before .before .before .before .before .before .before .before .before .deed3 .given .0 .1 .0 in (
       c .before .before .before .before .before .set .ensures .0,
       deed (c .before .before .before .before .before .before .before .before .before .before .deed3 .given .1) (rw (toZ-ofZ {w = w32} {z = v} (record { sfits = c .before .before .before .before .before .before .before .before .before .known-told3 .given .1 .0 .1 })) at (c .before .before .before .before .before .set .ensures .1)),
     )

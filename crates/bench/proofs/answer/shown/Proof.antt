@@ -34,8 +34,7 @@ returns c =
     let k3 = c .before .before in
     let k2 = k3 .before .before .before .before in
     let k1 = k2 .before .before .before .before .before .before in
-    let h = next _ (k2 .put-frames .last .0) _ _ _ (begun _ (k1 .put-at .last .0) _ _ (k1 .put-at .ensures .0) (k1 .put-at .kept .0)) (k2 .put-frames .ensures .0) (k2 .put-frames .kept .0) in
-    (
+    let h = next _ (k2 .put-frames .last .0) _ _ _ (begun _ (k1 .put-at .last .0) _ _ (k1 .put-at .ensures .0) (k1 .put-at .kept .0)) (k2 .put-frames .ensures .0) (k2 .put-frames .kept .0) in (
       record {
         session = search needs;
         lines = omega (arith, said _ _ _ _ h (k3 .put-cells .ensures .0), k2 .put-frames .kept .0, k1 .put-at .kept .0);
