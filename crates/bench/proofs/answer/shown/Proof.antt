@@ -6,29 +6,7 @@ use Rattle.bench.proofs.Rooms.{said, next, begun}
 use borrow.Author.Needs.{needs}
 use Rattle.bench.proofs.answer.shown.Statement.{statement}
 use Rattle.bench.proofs.answer.shown.Tie as tie
-use Rattle.bench.proofs.answer.shown.Reads as reads
-use Rattle.bench.proofs.answer.shown.Lts as lts
-use Rattle.print.proofs.put_at.Reads as put-at-reads
-use Rattle.print.proofs.put_cells.Reads as put-cells-reads
-use Rattle.print.proofs.put_frames.Reads as put-frames-reads
 
--- src/answer.rt:145:9
-put-at-requires : tie.Need-put-at-requires
-put-at-requires c κs = search needs
-
--- src/answer.rt:146:9
-put-frames-requires : tie.Need-put-frames-requires
-put-frames-requires c κs = search needs
-
--- src/answer.rt:149:15
-put-cells-requires : tie.Need-put-cells-requires
-put-cells-requires c κs = search needs
-
--- src/answer.rt:140:1
-same-length : tie.Need-same-length
-same-length c = search needs
-
--- src/answer.rt:140:1
 returns : tie.Need-returns
 returns c =
     let k3 = c .before .before in
@@ -49,4 +27,4 @@ returns c =
 
 pub shown-spec : {M : Type 1} → statement M
 shown-spec =
-    tie.close (tie.spec put-at-requires put-frames-requires put-cells-requires same-length returns)
+    tie.close (tie.spec (λ c κs. search needs) (λ c κs. search needs) (λ c κs. search needs) (λ c. search needs) returns)
