@@ -1,2 +1,3 @@
 -- The laws of `bench`.
 pub mod Rooms
+pub mod Answering

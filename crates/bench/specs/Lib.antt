@@ -1,2 +1,3 @@
 -- The definitions of `bench`.
 pub mod Room
+pub mod Answers

@@ -2,8 +2,12 @@
 ghost use mathlib.Core.Path.{_≡_};
 ghost use Prim.Native.Nat.{_≤_};
 ghost use lib.ListN.{length};
+ghost use Rattle.machine.specs.Answers.{direction};
+ghost use Rattle.print.specs.Lines.{refusedLine};
 ghost use Rattle.bench.specs.Room.{Room};
-use crate::command::Command;
+ghost use Rattle.bench.specs.Answers.{Text, Checks, Says, Saves, Keeps, Starts, Does, Answers, movedLines, shownLines, reasonOf};
+ghost use Rattle.bench.specs.declared.command.Deed.the-variants.{Set};
+use crate::command::Deed;
 use machine::Ran;
 use machine::Told;
 use place::Place;
@@ -18,6 +22,7 @@ pub struct Answer {
 
 fn refused(number: u8, label: usize, buffer: &[u8], text: &mut [u8]) -> Answer
     ensures { λ r. ⌜ Room r (length (now (buffer .entry))) (length (now (text .entry))) ⌝ }
+    ensures { λ r. ⌜ Says (now (buffer .entry)) (now (text .entry)) (refusedLine number label) r (now (buffer .entry)) (now (text .exit)) ⌝ }
 {
     Answer {
         written: 0,
@@ -29,6 +34,7 @@ fn refused(number: u8, label: usize, buffer: &[u8], text: &mut [u8]) -> Answer
 // `check`
 pub fn checked(file: &[u8], text: &mut [u8]) -> usize
     ensures { λ r. ⌜ r ≤ length (now (text .entry)) ⌝ }
+    ensures { λ r. ⌜ Checks (now (file .entry)) (now (text .entry)) (now (text .exit)) r ⌝ }
 {
     match program::check(file) {
         Checked::Refused(number, label) => print::put_refused(text, 0, number, label),
@@ -59,6 +65,7 @@ fn saved(
 ) -> Answer
     requires { ⌜ said ≤ length (now text) ⌝ }
     ensures { λ r. ⌜ Room r (length (now (buffer .entry))) (length (now (text .entry))) ⌝ }
+    ensures { λ r. ⌜ Keeps (now (file .entry)) place (now (store .entry)) (now (buffer .entry)) (now (text .entry)) said r (now (buffer .exit)) (now (text .exit)) ⌝ }
 {
     let s = saved::save(file, place, store, buffer);
     let told = s.told;
@@ -75,6 +82,7 @@ fn saved(
 // `start`, on a store of zeros
 pub fn started(file: &[u8], up: bool, store: &[i32], buffer: &mut [u8], text: &mut [u8]) -> Answer
     ensures { λ r. ⌜ Room r (length (now (buffer .entry))) (length (now (text .entry))) ⌝ }
+    ensures { λ r. ⌜ Starts (now (file .entry)) (direction up) (now (store .entry)) (now (buffer .entry)) (now (text .entry)) r (now (buffer .exit)) (now (text .exit)) ⌝ }
 {
     let r = machine::start(file, up);
     let told = r.told;
@@ -88,7 +96,9 @@ pub fn started(file: &[u8], up: bool, store: &[i32], buffer: &mut [u8], text: &m
     }
 }
 
-fn reason(told: Told) -> u8 {
+fn reason(told: Told) -> u8
+    ensures { λ r. ⌜ r ≡ reasonOf told ⌝ }
+{
     match told {
         Told::Done => 0,
         Told::Refused(number, _) => number,
@@ -98,6 +108,7 @@ fn reason(told: Told) -> u8 {
 // `step` and `back`, after the moves
 fn moved(file: &[u8], went: Ran, store: &[i32], buffer: &mut [u8], text: &mut [u8]) -> Answer
     ensures { λ r. ⌜ Room r (length (now (buffer .entry))) (length (now (text .entry))) ⌝ }
+    ensures { λ r. ⌜ Saves (now (file .entry)) (went .place) (now (store .entry)) (now (buffer .entry)) (now (text .entry)) (movedLines (went .told) (went .steps) (went .place)) r (now (buffer .exit)) (now (text .exit)) ⌝ }
 {
     let told = went.told;
     let place = went.place;
@@ -117,6 +128,7 @@ fn set(
     text: &mut [u8],
 ) -> Answer
     ensures { λ r. ⌜ Room r (length (now (buffer .entry))) (length (now (text .entry))) ⌝ }
+    ensures { λ r. ⌜ Does (now (file .entry)) place (now (store .entry)) (now (buffer .entry)) (now (text .entry)) r (now (buffer .exit)) (now (text .exit)) (Set cell value) ⌝ }
 {
     let i = cell as usize;
     if i >= store.len() {
@@ -133,6 +145,7 @@ fn set(
 // `show`
 fn shown(place: Place, store: &[i32], buffer: &[u8], text: &mut [u8]) -> Answer
     ensures { λ r. ⌜ Room r (length (now (buffer .entry))) (length (now (text .entry))) ⌝ }
+    ensures { λ r. ⌜ Says (now (buffer .entry)) (now (text .entry)) (shownLines place (now (store .entry))) r (now (buffer .entry)) (now (text .exit)) ⌝ }
 {
     let kinds = place.kinds;
     let labels = place.labels;
@@ -145,9 +158,9 @@ fn shown(place: Place, store: &[i32], buffer: &[u8], text: &mut [u8]) -> Answer
     }
 }
 
-// A command on a session that was read.
+// What is done on a session that was read.
 fn found(
-    command: Command,
+    deed: Deed,
     file: &[u8],
     place: Place,
     store: &mut [i32],
@@ -155,24 +168,25 @@ fn found(
     text: &mut [u8],
 ) -> Answer
     ensures { λ r. ⌜ Room r (length (now (buffer .entry))) (length (now (text .entry))) ⌝ }
+    ensures { λ r. ⌜ Does (now (file .entry)) place (now (store .entry)) (now (buffer .entry)) (now (text .entry)) r (now (buffer .exit)) (now (text .exit)) deed ⌝ }
 {
-    match command {
-        Command::Step(n) => {
+    match deed {
+        Deed::Step(n) => {
             let went = machine::run(file, place, store, n);
             moved(file, went, store, buffer, text)
         }
-        Command::Back(n) => {
+        Deed::Back(n) => {
             let went = machine::run_back(file, place, store, n);
             moved(file, went, store, buffer, text)
         }
-        Command::Set(cell, value) => set(file, place, cell, value, store, buffer, text),
-        _ => shown(place, store, buffer, text),
+        Deed::Set(cell, value) => set(file, place, cell, value, store, buffer, text),
+        Deed::Show => shown(place, store, buffer, text),
     }
 }
 
 // `step`, `back`, `set` and `show`
 pub fn answered(
-    command: Command,
+    deed: Deed,
     file: &[u8],
     session: &[u8],
     store: &mut [i32],
@@ -180,12 +194,13 @@ pub fn answered(
     text: &mut [u8],
 ) -> Answer
     ensures { λ r. ⌜ Room r (length (now (buffer .entry))) (length (now (text .entry))) ⌝ }
+    ensures { λ r. ⌜ Answers deed (now (file .entry)) (now (session .entry)) (now (store .entry)) (now (buffer .entry)) (now (text .entry)) r (now (buffer .exit)) (now (text .exit)) ⌝ }
 {
     let r = saved::read(file, session, store);
     let told = r.told;
     let place = r.place;
     match told {
         Told::Refused(number, label) => refused(number, label, buffer, text),
-        Told::Done => found(command, file, place, store, buffer, text),
+        Told::Done => found(deed, file, place, store, buffer, text),
     }
 }

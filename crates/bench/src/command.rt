@@ -4,15 +4,20 @@ use crate::number::Natural;
 use crate::number::read_integer;
 use crate::number::read_natural;
 
-// Start says whether it goes up; step and back how many steps; set the cell and its value.
-pub enum Command {
-    Wrong,
-    Check,
-    Start(bool),
+// What is done to a session: step and back say how many steps, set the cell and its value.
+pub enum Deed {
     Step(u32),
     Back(u32),
     Set(u32, i32),
     Show,
+}
+
+// Start says whether it goes up.
+pub enum Command {
+    Wrong,
+    Check,
+    Start(bool),
+    On(Deed),
 }
 
 // Whether the word is this text.
@@ -69,21 +74,21 @@ fn steps(count: usize, word: &[u8]) -> Natural {
 
 fn step(count: usize, word: &[u8]) -> Command {
     match steps(count, word) {
-        Natural::Is(n) => Command::Step(n),
+        Natural::Is(n) => Command::On(Deed::Step(n)),
         Natural::Not => Command::Wrong,
     }
 }
 
 fn back(count: usize, word: &[u8]) -> Command {
     match steps(count, word) {
-        Natural::Is(n) => Command::Back(n),
+        Natural::Is(n) => Command::On(Deed::Back(n)),
         Natural::Not => Command::Wrong,
     }
 }
 
 fn set_to(cell: u32, value: &[u8]) -> Command {
     match read_integer(value) {
-        Integer::Is(v) => Command::Set(cell, v),
+        Integer::Is(v) => Command::On(Deed::Set(cell, v)),
         Integer::Not => Command::Wrong,
     }
 }
@@ -113,7 +118,7 @@ fn named(name: &[u8], count: usize, fourth: &[u8], fifth: &[u8]) -> Command {
         return plain(count, 3, Command::Check);
     }
     if is(name, b"show") {
-        return plain(count, 4, Command::Show);
+        return plain(count, 4, Command::On(Deed::Show));
     }
     if is(name, b"start") {
         return start(count, fourth);

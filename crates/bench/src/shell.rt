@@ -9,6 +9,7 @@ use crate::answer::cells_of;
 use crate::answer::checked;
 use crate::answer::started;
 use crate::command::Command;
+use crate::command::Deed;
 use files::Got;
 use libc::STDERR_FILENO;
 
@@ -87,14 +88,14 @@ fn check(file: &[u8]) {
     files::say(b"bench", &text[..n]);
 }
 
-// A command on the session with that name.
-fn on_session(command: Command, file: &[u8], name: &[u8], session: &[u8]) {
+// What is done on the session with that name.
+fn on_session(deed: Deed, file: &[u8], name: &[u8], session: &[u8]) {
     let mut store = zeros();
     let mut buffer = no_session();
     let mut text = io::large_buffer();
     let cells = cells_of(file);
     let answer = answered(
-        command,
+        deed,
         file,
         session,
         &mut store[..cells],
@@ -113,14 +114,14 @@ fn start(up: bool, file: &[u8], name: &[u8]) {
     finish(name, answer, &buffer, &text);
 }
 
-fn with_session(command: Command, file: &[u8], name: &[u8]) {
+fn with_session(deed: Deed, file: &[u8], name: &[u8]) {
     let mut session = no_session();
     match files::read_named(name, &mut session) {
         Got::Failed(error) => {
             complain(name, error);
         }
         Got::All(n) => {
-            on_session(command, file, name, &session[..n]);
+            on_session(deed, file, name, &session[..n]);
         }
     }
 }
@@ -131,8 +132,11 @@ fn on_name(command: Command, file: &[u8], name: &[u8]) {
         Command::Start(up) => {
             start(up, file, name);
         }
+        Command::On(deed) => {
+            with_session(deed, file, name);
+        }
         _ => {
-            with_session(command, file, name);
+            usage();
         }
     }
 }

@@ -1,43 +1,30 @@
 -- `bench::answer::shown` meets its contract. Assumes nothing.
+use mathlib.Core.Path.{refl}
+use Rattle.print.proofs.Rows.{joined}
 use native.Mathlib.Omega.{arith}
 use Rattle.bench.proofs.Rooms.{said, next, begun}
 use borrow.Author.Needs.{needs}
 use Rattle.bench.proofs.answer.shown.Statement.{statement}
 use Rattle.bench.proofs.answer.shown.Tie as tie
-use Rattle.bench.proofs.answer.shown.Reads as reads
-use Rattle.bench.proofs.answer.shown.Lts as lts
-use Rattle.print.proofs.put_at.Reads as put-at-reads
-use Rattle.print.proofs.put_cells.Reads as put-cells-reads
-use Rattle.print.proofs.put_frames.Reads as put-frames-reads
 
--- src/answer.rt:145:9
-put-at-requires : tie.Need-put-at-requires
-put-at-requires c κs = search needs
-
--- src/answer.rt:146:9
-put-frames-requires : tie.Need-put-frames-requires
-put-frames-requires c κs = search needs
-
--- src/answer.rt:149:15
-put-cells-requires : tie.Need-put-cells-requires
-put-cells-requires c κs = search needs
-
--- src/answer.rt:140:1
-same-length : tie.Need-same-length
-same-length c = search needs
-
--- src/answer.rt:140:1
 returns : tie.Need-returns
 returns c =
     let k3 = c .before .before in
     let k2 = k3 .before .before .before .before in
     let k1 = k2 .before .before .before .before .before .before in
-    let h = next _ (k2 .put-frames .last .0) _ _ _ (begun _ (k1 .put-at .last .0) _ _ (k1 .put-at .ensures .0) (k1 .put-at .kept .0)) (k2 .put-frames .ensures .0) (k2 .put-frames .kept .0) in
-    record {
-      session = search needs;
-      lines = omega (arith, said _ _ _ _ h (k3 .put-cells .ensures .0), k2 .put-frames .kept .0, k1 .put-at .kept .0);
-    }
+    let h = next _ (k2 .put-frames .last .0) _ _ _ (begun _ (k1 .put-at .last .0) _ _ (k1 .put-at .ensures .0) (k1 .put-at .kept .0)) (k2 .put-frames .ensures .0) (k2 .put-frames .kept .0) in (
+      record {
+        session = search needs;
+        lines = omega (arith, said _ _ _ _ h (k3 .put-cells .ensures .0), k2 .put-frames .kept .0, k1 .put-at .kept .0);
+      },
+      record {
+        none = refl;
+        kept = refl;
+        lines = joined _ _ _ _ _ _ _ _ (k1 .put-at .ensures) (joined _ _ _ _ _ _ _ _ (k2 .put-frames .ensures) (k3 .put-cells .ensures));
+        right = refl;
+      },
+    )
 
 pub shown-spec : {M : Type 1} → statement M
 shown-spec =
-    tie.close (tie.spec put-at-requires put-frames-requires put-cells-requires same-length returns)
+    tie.close (tie.spec (λ c κs. search needs) (λ c κs. search needs) (λ c κs. search needs) (λ c. search needs) returns)

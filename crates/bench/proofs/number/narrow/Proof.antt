@@ -16,23 +16,10 @@ between : (v : ℤ) → ltZ v (negsuc 2147483647) ≡ false → ltZ (pos 2147483
 between (pos n) p q = omega (arith, ltb-false 2147483647 n q)
 between (negsuc n) p q = omega (arith, ltb-false 2147483647 n p)
 
--- src/number.rt:14:9
-returns : tie.Need-returns
-returns c = search needs
-
--- src/number.rt:17:9
-returns-2 : tie.Need-returns-2
-returns-2 c = search needs
-
--- src/number.rt:19:17
 cast-t3 : tie.Need-cast-t3
 cast-t3 c =
     let s = c .before .before in
     rw (toZ-ofZ (s .fits .v)) (between (s .args .v) (rw (toZ-ofZ (s .fits .v)) at (c .before .if1 .left)) (rw (toZ-ofZ (s .fits .v)) at (c .if2 .left)))
 
--- src/number.rt:12:1
-returns-3 : tie.Need-returns-3
-returns-3 c = search needs
-
 pub narrow-spec : {M : Type 1} → statement M
-narrow-spec = tie.close (tie.spec returns returns-2 cast-t3 returns-3)
+narrow-spec = tie.close (tie.spec (λ c. search needs) (λ c. search needs) cast-t3 (λ c. search needs))
