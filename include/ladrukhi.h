@@ -5,7 +5,8 @@
    What a caller owes: each pointer points to as many bytes as its length says, or to a whole session; no pointer is null and
    what they point to does not overlap; where a length is 0 any pointer will do. Nothing else: any bytes and any session,
    whatever its fields hold, get an answer. A call that is refused with a count of 0 leaves the session and the buffer as they
-   were, to the last byte; a run that is stopped after some steps leaves the session where it stopped. */
+   were, to the last field (the bytes between fields mean nothing, and a call may change them); a run that is stopped after
+   some steps leaves the session where it stopped. */
 #ifndef LADRUKHI_H
 #define LADRUKHI_H
 
