@@ -1,4 +1,5 @@
 -- The definitions of `place`.
 pub mod Places
+pub mod Held
 pub mod Slots
 pub mod Methods

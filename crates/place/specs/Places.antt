@@ -5,27 +5,31 @@ use mathlib.Core.List.{List, [], _∷_, _++_}
 pub data Dir : Type 0 where
   down up : Dir
 
+-- The first going down, the second going up.
+abbrev pub going : {A : Type 0} → Dir → A → A → A
+going down x y = x
+going up x y = y
+
 abbrev pub opp : Dir → Dir
-opp down = up
-opp up = down
+opp d = going d up down
 
 -- "0 true branch, 1 false branch (label of IF); 2 in s1, 3 in s2 (label of FROM); 4 call (label of the CALL or UNCALL)"
 pub data Frame : Type 0 where
   inThen inElse inDo inLoop called : ℕ → Frame
 
+-- The number of a frame's kind, and its label.
+abbrev pub frameNumbers : Frame → ℕ × ℕ
+frameNumbers (inThen l) = (0, l)
+frameNumbers (inElse l) = (1, l)
+frameNumbers (inDo l) = (2, l)
+frameNumbers (inLoop l) = (3, l)
+frameNumbers (called l) = (4, l)
+
 abbrev pub frameKind : Frame → ℕ
-frameKind (inThen l) = 0
-frameKind (inElse l) = 1
-frameKind (inDo l) = 2
-frameKind (inLoop l) = 3
-frameKind (called l) = 4
+frameKind f = frameNumbers f .0
 
 abbrev pub frameLabel : Frame → ℕ
-frameLabel (inThen l) = l
-frameLabel (inElse l) = l
-frameLabel (inDo l) = l
-frameLabel (inLoop l) = l
-frameLabel (called l) = l
+frameLabel f = frameNumbers f .1
 
 -- "A place is an edge (a, b) in direction d, with frames, innermost first."
 pub record Place : Type 0 where

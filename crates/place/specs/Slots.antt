@@ -1,32 +1,14 @@
--- How the struct holds a place of the document's: the one definition that ties slots to the list of frames.
+-- Which structs hold a place, and the way back: the place that a struct holds.
 -- Assumes nothing: these are definitions.
-use Prim.Native.Nat.{ℕ, zero, suc, _-_, _≤_}
+use Prim.Native.Nat.{ℕ, zero, suc, _≤_}
 use mathlib.Core.Path.{_≡_}
 use mathlib.Core.Bool.{Bool, true, false, cond}
 use lib.Dec.{eqb, leb}
-use mathlib.Core.List.{List, [], _∷_, _++_, map, reverse}
-use lib.ListN.{length, getD, replicate}
+use mathlib.Core.List.{List, [], _∷_}
+use lib.ListN.{length, getD}
 use Rattle.place.specs.declared.Place.{Place as Held}
-use Rattle.place.specs.Places.{Dir, down, up, Frame, inThen, inElse, inDo, inLoop, called, frameKind, frameLabel, Place}
-
--- "u8 direction, 0 down, 1 up"
-abbrev pub dirNumber : Dir → ℕ
-dirNumber down = 0
-dirNumber up = 1
-
--- the outermost frame in slot 0, and "unused slots hold 0"
-abbrev pub slots : List ℕ → List ℕ
-slots xs = reverse xs ++ replicate (1104 - length xs) 0
-
-abbrev pub held : Place → Held
-held p = record {
-  direction = dirNumber (p .d);
-  a = p .a;
-  b = p .b;
-  count = length (p .frames);
-  kinds = slots (map frameKind (p .frames));
-  labels = slots (map frameLabel (p .frames));
-}
+use Rattle.place.specs.Places.{Dir, down, up, Frame, inThen, inElse, inDo, inLoop, called, Place}
+pub use Rattle.place.specs.Held.{dirNumber, slots, held}
 
 -- the struct holds some place of at most 1,104 frames
 pub record Plain (h : Held) : Type 0 where

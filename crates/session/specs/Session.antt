@@ -9,7 +9,7 @@ use mir.Syntax.{w32}
 use mir.Val.{SFits}
 use Rattle.codes.specs.Codes.{bytes16, cellBytes}
 use Rattle.place.specs.Places.{Frame, frameKind, frameLabel, Place}
-use Rattle.place.specs.Slots.{dirNumber}
+use Rattle.place.specs.Held.{dirNumber}
 
 -- "each frame u16 kind, u16 label", innermost first
 unfoldable pub encodeFrames : List Frame → List ℕ
