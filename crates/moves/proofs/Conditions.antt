@@ -16,8 +16,9 @@ use Rattle.order.specs.Trees.{Tree}
 use Rattle.moves.specs.Edges.{Frame, inThen, inElse, inDo, inLoop, called}
 use Rattle.moves.specs.Places.{Dir, down, up, calls}
 use Rattle.moves.specs.Stores.{Reason, atEnd, wrongValue, zeroDivisor, badIndex, tooDeep, Answer, ok, no, bind, Store, layout, reasonOf, answered, evaluated, holds, entryAt, cellOf, assigned}
-use Rattle.moves.specs.Step.{Act, assigns, moves, chooses, closes, opens, tests, enters, returns, nothing, act, wanted, again}
+use Rattle.moves.specs.Step.{again}
 use Rattle.moves.specs.Reasons.{AtEnd, end-down, begin-up, TooDeep, at-call, at-uncall, Misses, Stops, Faults, in-if, in-fi, in-from, in-until, in-set, in-index, index, in-entry, Closes, fi-down, if-up, Opens, from-down, until-up, Wrong, then-false, else-true, outside-false, again-true, Meets}
+use Rattle.moves.proofs.Acts.{Act, assigns, moves, chooses, closes, opens, tests, enters, returns, nothing, act, wanted}
 use Rattle.moves.proofs.Why.{ok-no, no-no, Refuses}
 use Rattle.moves.proofs.Stopping.{stopped, stops-eval}
 

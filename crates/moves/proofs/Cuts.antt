@@ -2,7 +2,7 @@
 -- and what an accepted program gives, record by record.
 use Prim.Native.Nat.{ℕ, suc, _≤_, _<_, pred}
 use mathlib.Core.Path.{_≡_}
-use mathlib.Core.Bool.{Bool, true, false, cond}
+use mathlib.Core.Bool.{Bool, true, false, cond, Bool·beq as same}
 use mathlib.Core.List.{List, [], _∷_}
 use lib.ListN.{length}
 use lib.Dec.{ltb}
@@ -12,7 +12,7 @@ use Rattle.order.specs.Trees.{Tree}
 use Rattle.moves.specs.Edges.{inThen, inElse, inDo, inLoop}
 use Rattle.moves.specs.Places.{Dir, down, up, opp, calls}
 use Rattle.moves.specs.Stores.{Answer, ok, no, bind, Store, Sized, holds, assigned, atEnd, tooDeep}
-use Rattle.moves.specs.Step.{again, same, must}
+use Rattle.moves.specs.Step.{again, must}
 use Rattle.moves.proofs.Linked.{Con, Rec, nameL, beginL, endL, setL, skipL, ifL, elseL, fiL, fromL, loopL, untilL, callL, uncallL, Prog, onto, gateL, resume}
 
 -- A cut: the gap g between the records g and g + 1, a direction, the labels of the open calls.

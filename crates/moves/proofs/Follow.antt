@@ -2,14 +2,14 @@
 use Prim.Native.Nat.{ℕ, zero, suc, _≤_, _<_, pred}
 use mathlib.Core.Path.{_≡_, refl, ap, ap₂, sym, _∙_, subst}
 use mathlib.Core.Bool.{Bool, true, false, cond, _&&_}
-use mathlib.Core.List.{List, [], _∷_, List·Memᴰ, List·Memᴰ·head, List·Memᴰ·tail, List·Memᴰ·not-nil}
+use mathlib.Core.List.{List, [], _∷_, _++_, List·Memᴰ, List·Memᴰ·head, List·Memᴰ·tail, List·Memᴰ·not-nil}
 use lib.Dec.{eqb}
 use native.Mathlib.Omega.{arith}
 use borrow.Author.Tests.{eq-eqb, eqb-true}
 use Rattle.order.specs.Trees.{Tree}
 use Rattle.moves.specs.Edges.{Frame, inThen, inElse, inDo, inLoop, called, frameKind, frameLabel, Edge, edges}
-use Rattle.moves.specs.Places.{Dir, down, up, opp, near, far}
-use Rattle.moves.specs.Step.{sameFrames, ahead}
+use Rattle.moves.specs.Places.{Dir, down, up, opp, near, far, calls}
+use Rattle.moves.specs.Step.{find, inside}
 use Rattle.moves.proofs.Linked.{Con, Rec, nameL, beginL, endL, setL, skipL, ifL, elseL, fiL, fromL, loopL, untilL, callL, uncallL, Prog, onto, off}
 use Rattle.moves.proofs.Cuts.{CondOk, LoopOk, Local, Wf}
 use Rattle.moves.proofs.Rows.{prog}
@@ -35,39 +35,46 @@ pub and-true : (a b : Bool) → (a && b) ≡ true → (a ≡ true) × (b ≡ tru
 and-true true b h = (refl, h)
 and-true false b h = absurd (let z : _≡_ {A = ℕ} 0 1 = cc in let y : ⊥ = omega arith in y)
 
-pub same-true : (F G : List Frame) → sameFrames F G ≡ true → F ≡ G
-same-true [] [] h = refl
-same-true [] (g ∷ G) h = absurd (let z : _≡_ {A = ℕ} 0 1 = cc in let y : ⊥ = omega arith in y)
-same-true (f ∷ F) [] h = absurd (let z : _≡_ {A = ℕ} 0 1 = cc in let y : ⊥ = omega arith in y)
-same-true (f ∷ F) (g ∷ G) h =
-    let k = and-true _ _ h in let l = and-true _ _ (k .1) in
-    let e : f ≡ g = sym (frame-is f) ∙ (ap₂ frame (eqb-true _ _ (k .0)) (eqb-true _ _ (l .0)) ∙ frame-is g) in
-    ap₂ _∷_ e (same-true F G (l .1))
+same-frame : (f g : Frame) → eqb (frameKind f) (frameKind g) ≡ true → eqb (frameLabel f) (frameLabel g) ≡ true → f ≡ g
+same-frame f g h k = sym (frame-is f) ∙ (ap₂ frame (eqb-true _ _ h) (eqb-true _ _ k) ∙ frame-is g)
 
-pub same-refl : (F : List Frame) → sameFrames F F ≡ true
-same-refl [] = refl
-same-refl (f ∷ F) = rw (eq-eqb (frameKind f) (frameKind f) refl, eq-eqb (frameLabel f) (frameLabel f) refl) (same-refl F)
+-- ---- the frames down to the first call
+true-false : {X : Type 0} {b : Bool} → b ≡ true → b ≡ false → X
+true-false h k = absurd (let z : _≡_ {A = ℕ} 0 1 = cc in let y : ⊥ = omega arith in y)
 
--- ---- the one edge of a list that leaves a label inside some constructs is the one that is found
-matches : Edge → ℕ → Dir → List Frame → Bool
-matches e a d F = eqb (near e d) a && sameFrames (e .within) F
-
-pub ahead-is : (es : List Edge) (e₀ : Edge) (d : Dir) → List·Memᴰ e₀ es
-    → ((e : Edge) → List·Memᴰ e es → near e d ≡ near e₀ d → e .within ≡ e₀ .within → far e d ≡ far e₀ d)
-    → ahead es (near e₀ d) d (e₀ .within) ≡ far e₀ d
-unfolding ahead matches
-ahead-is [] e₀ d m f = absurd (List·Memᴰ·not-nil m)
-ahead-is (e ∷ es) e₀ d m f = go′ (matches e (near e₀ d) d (e₀ .within)) refl m (λ h. ahead-is es e₀ d h (λ e h. f e (List·Memᴰ·tail h)))
+no-call : (f : Frame) (F : List Frame) → calls (f ∷ F) ≡ 0 → (eqb (frameKind f) 4 ≡ false) × (calls F ≡ 0)
+no-call f F h = go′ (eqb (frameKind f) 4) h
   where
-    go′ : (b : Bool) → matches e (near e₀ d) d (e₀ .within) ≡ b → List·Memᴰ e₀ (e ∷ es)
-        → (List·Memᴰ e₀ es → ahead es (near e₀ d) d (e₀ .within) ≡ far e₀ d)
-        → cond b (far e d) (ahead es (near e₀ d) d (e₀ .within)) ≡ far e₀ d
-    go′ true h m ih = let k = and-true _ _ h in f e (List·Memᴰ·head refl) (eqb-true _ _ (k .0)) (same-true _ _ (k .1))
-    go′ false h (List·Memᴰ·tail m) ih = ih m
-    go′ false h (List·Memᴰ·head q) ih =
-        let y : matches e (near e₀ d) d (e₀ .within) ≡ true =
-        subst (λ x. matches x (near e₀ d) d (e₀ .within) ≡ true) q (rw (eq-eqb (near e₀ d) (near e₀ d) refl) (same-refl (e₀ .within))) in
-        absurd (let z : _≡_ {A = ℕ} 0 1 = cc in let x : ⊥ = omega arith in x)
+    go′ : (b : Bool) → cond b (suc (calls F)) (calls F) ≡ 0 → (b ≡ false) × (calls F ≡ 0)
+    go′ true h = absurd (let z : ⊥ = omega arith in z)
+    go′ false h = (refl, h)
+
+pub inside-is : (F S : List Frame) → inside [] S ≡ true → inside F (F ++ S) ≡ true
+inside-is [] S h = h
+inside-is (f ∷ F) S h = rw (eq-eqb (frameKind f) (frameKind f) refl, eq-eqb (frameLabel f) (frameLabel f) refl) (inside-is F S h)
+
+pub inside-only : (G F S : List Frame) → inside [] S ≡ true → calls G ≡ 0 → calls F ≡ 0 → inside G (F ++ S) ≡ true → G ≡ F
+inside-only [] [] S s g h k = refl
+inside-only [] (f ∷ F) S s g h k = true-false k (no-call f F h .0)
+inside-only (x ∷ G) [] [] s g h k = true-false {b = false} k refl
+inside-only (x ∷ G) [] (y ∷ S) s g h k =
+    let e = eqb-true (frameKind x) (frameKind y) (and-true _ _ k .0) in
+    true-false (ap (λ n. eqb n 4) e ∙ s) (no-call x G g .0)
+inside-only (x ∷ G) (f ∷ F) S s g h k =
+    let y = and-true _ _ k in let z = and-true _ _ (y .1) in
+    ap₂ _∷_ (same-frame x f (y .0) (z .0)) (inside-only G F S s (no-call x G g .1) (no-call f F h .1) (z .1))
+
+-- ---- what is found among the edges: what is the same of every edge that is looked for is so of the one that is found
+pub find-is : {X : Type 0} (f : Edge → Bool) (x : Edge → X) (es : List Edge) (e₀ : Edge) → List·Memᴰ e₀ es → f e₀ ≡ true
+    → ((e : Edge) → List·Memᴰ e es → f e ≡ true → x e ≡ x e₀) → x (find f es) ≡ x e₀
+unfolding find
+find-is f x [] e₀ m h u = absurd (List·Memᴰ·not-nil m)
+find-is {X} f x (e ∷ es) e₀ m h u = go′ (f e) refl m (λ k. find-is f x es e₀ k h (λ e k. u e (List·Memᴰ·tail k)))
+  where
+    go′ : (b : Bool) → f e ≡ b → List·Memᴰ e₀ (e ∷ es) → (List·Memᴰ e₀ es → x (find f es) ≡ x e₀) → x (cond b e (find f es)) ≡ x e₀
+    go′ true k m ih = u e (List·Memᴰ·head refl) k
+    go′ false k (List·Memᴰ·tail m) ih = ih m
+    go′ false k (List·Memᴰ·head q) ih = true-false h (ap f q ∙ k)
 
 -- ---- how a label stands at the upper end and at the lower end of a gap
 data Upper (P : Prog) (g a : ℕ) : Type 0 where
@@ -169,20 +176,29 @@ far-gap : (P : Prog) (q g : ℕ) (d : Dir) → far (gapAt P q g) d ≡ tip P g d
 far-gap P q g down = refl
 far-gap P q g up = refl
 
--- What the definition finds behind the gap g is its far end.
-pub ahead-gap : (τ : Tree) → Wf τ (prog τ) → (q g : ℕ) (d : Dir) → prog τ .first q ≤ g → g < prog τ .last q
-    → ahead (edges τ) (tip (prog τ) g (opp d)) d (prog τ .encl g) ≡ tip (prog τ) g d
-ahead-gap τ w q g d lo hi =
-    ap (λ x. ahead (edges τ) x d (P .encl g)) (sym (near-gap P q g d))
-    ∙ (ahead-is (edges τ) (gapAt P q g) d (edge-on τ q g lo hi) only ∙ far-gap P q g d)
+-- The label that follows a.
+abbrev pub ahead : Tree → ℕ → Dir → List Frame → ℕ
+ahead τ a d fs = far (find (λ e. eqb (near e d) a && inside (e .within) fs) (edges τ)) d
+
+-- What the definition finds behind the gap g is its far end; S are the frames outside its procedure.
+pub ahead-gap : (τ : Tree) → Wf τ (prog τ) → (q g : ℕ) (d : Dir) (S : List Frame) → inside [] S ≡ true → prog τ .first q ≤ g → g < prog τ .last q
+    → ahead τ (tip (prog τ) g (opp d)) d (prog τ .encl g ++ S) ≡ tip (prog τ) g d
+ahead-gap τ w q g d S s lo hi = find-is f (λ e. far e d) (edges τ) (gapAt P q g) (edge-on τ q g lo hi) here only ∙ far-gap P q g d
   where
     P : Prog
     P = prog τ
 
-    only : (e : Edge) → List·Memᴰ e (edges τ) → near e d ≡ near (gapAt P q g) d → e .within ≡ P .encl g → far e d ≡ far (gapAt P q g) d
-    only e m n k =
-        let r = on-edge τ e m in
+    f : Edge → Bool
+    f e = eqb (near e d) (tip P g (opp d)) && inside (e .within) (P .encl g ++ S)
+
+    here : f (gapAt P q g) ≡ true
+    here = rw (eq-eqb (near (gapAt P q g) d) (tip P g (opp d)) (near-gap P q g d)) (inside-is (P .encl g) S s)
+
+    only : (e : Edge) → List·Memᴰ e (edges τ) → f e ≡ true → far e d ≡ far (gapAt P q g) d
+    only e m k =
+        let r = on-edge τ e m in let y = and-true _ _ k in
+        let in-r : e .within ≡ P .encl (r .g) = ap (λ x. x .within) (r .is) in
         let z : r .g ≡ g = one-gap τ P w d (r .g) g
-        (sym (near-gap P (e .proc) (r .g) d) ∙ (ap (λ x. near x d) (sym (r .is)) ∙ (n ∙ near-gap P q g d)))
-        (ap (λ x. x .within) (sym (r .is)) ∙ k) in
+        (sym (near-gap P (e .proc) (r .g) d) ∙ (ap (λ x. near x d) (sym (r .is)) ∙ eqb-true _ _ (y .0)))
+        (sym in-r ∙ inside-only (e .within) (P .encl g) S s (ap calls in-r ∙ w .plain (r .g)) (w .plain g) (y .1)) in
         ap (λ x. far x d) (r .is) ∙ (far-gap P (e .proc) (r .g) d ∙ (ap (λ x. tip P x d) z ∙ sym (far-gap P q g d)))

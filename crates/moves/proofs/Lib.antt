@@ -5,6 +5,7 @@ pub mod Rows
 pub mod Locals
 pub mod Whole
 pub mod Links
+pub mod Acts
 pub mod Gaps
 pub mod Follow
 pub mod View

@@ -1,7 +1,7 @@
 -- The loop lemma on cuts: where a step arrives, the opposite step from there arrives where it came from.
 use Prim.Native.Nat.{ℕ, suc, _≤_, _<_, pred}
 use mathlib.Core.Path.{_≡_, refl, ap, sym, _∙_, subst}
-use mathlib.Core.Bool.{Bool, true, false, cond}
+use mathlib.Core.Bool.{Bool, true, false, cond, Bool·beq as same}
 use mathlib.Core.List.{List, _∷_}
 use lib.ListN.{length}
 use lib.Dec.{ltb}
@@ -13,7 +13,7 @@ use Rattle.records.specs.Records.{Target}
 use Rattle.order.specs.Trees.{Tree}
 use Rattle.moves.specs.Places.{Dir, down, up, opp}
 use Rattle.moves.specs.Stores.{Answer, ok, no, bind, Store, Sized, holds, assigned, tooDeep}
-use Rattle.moves.specs.Step.{same, must}
+use Rattle.moves.specs.Step.{must}
 use Rattle.moves.proofs.Linked.{Con, Rec, nameL, beginL, endL, setL, skipL, ifL, elseL, fiL, fromL, loopL, untilL, callL, uncallL, Prog, gateL, resume}
 use Rattle.moves.proofs.Cuts.{Cut, turned, met, gap, leave, Port, hub, arm, assign′, pass′, enter′, return′, port, through, cstep, Span, Undoes, SimpleOk, ProcOk, Local, Wf, Good, in-main, by-call, by-uncall, Sits}
 

@@ -9,14 +9,14 @@ use Rattle.order.specs.Trees.{Tree}
 use Rattle.moves.specs.Labels.{at}
 use Rattle.moves.specs.Edges.{Frame, inThen, inElse, inDo, inLoop, called, edge, edges}
 use Rattle.moves.specs.Places.{Dir, down, up, opp, Place, near, far, calls, Outer, in-main, entered, Fits}
-use Rattle.moves.specs.Step.{inner, ahead, after}
+use Rattle.moves.specs.Step.{after}
 use Rattle.moves.proofs.Linked.{Rec, nameL, beginL, endL, setL, skipL, ifL, elseL, fiL, fromL, loopL, untilL, callL, uncallL, Prog, forget, onto}
 use Rattle.moves.proofs.Cuts.{Cut, SimpleOk, Local, Wf, Good, in-main as no-calls, by-call, by-uncall, Sits}
 use Rattle.moves.proofs.Rows.{prog}
 use Rattle.moves.proofs.Links.{at-is}
 use Rattle.moves.proofs.Gaps.{tip, gapAt, on-edge, edge-on}
-use Rattle.moves.proofs.Follow.{one-gap, ahead-gap}
-use Rattle.moves.proofs.View.{stack, view, inner-stack, calls-stack}
+use Rattle.moves.proofs.Follow.{one-gap, ahead, ahead-gap}
+use Rattle.moves.proofs.View.{stack, view, inner, stack-outside, inner-stack, calls-stack}
 
 forget-call : (q : ℕ) (ρ : Rec) → forget ρ ≡ call q → ρ ≡ callL q
 forget-call q (nameL v ls) e = cc
@@ -155,8 +155,8 @@ module _ (τ : Tree) (w : Wf τ (prog τ)) where
   fits-placed p f =
       let t = on-edge τ (f .edge) (f .on) in
       let r = calls-of (f .outer) in
-      let a : p .a ≡ tip P (t .g) (opp (p .d)) = sym (f .from) ∙ (ap (λ x. near x (p .d)) (t .is) ∙ near-is _ (t .g) (p .d)) in
-      let b : p .b ≡ tip P (t .g) (p .d) = sym (f .to) ∙ (ap (λ x. far x (p .d)) (t .is) ∙ far-is _ (t .g) (p .d)) in
+      let a : p .a ≡ tip P (t .g) (opp (p .d)) = sym (f .from) ∙ (ap (λ x. near x (p .d)) (t .is) ∙ near-is (f .edge .proc) (t .g) (p .d)) in
+      let b : p .b ≡ tip P (t .g) (p .d) = sym (f .to) ∙ (ap (λ x. far x (p .d)) (t .is) ∙ far-is (f .edge .proc) (t .g) (p .d)) in
       let z : p .frames ≡ P .encl (t .g) ++ stack P (r .0) = f .framed ∙ ap₂ _++_ (ap (λ x. x .within) (t .is)) (r .2) in
       record {
         cut = record { g = t .g; d = p .d; cs = r .0 };
@@ -169,9 +169,8 @@ module _ (τ : Tree) (w : Wf τ (prog τ)) where
   unfolding after
   follows p f =
       let k = fits-placed p f in let s = k .cut in
-      let b : ahead (edges τ) (tip P (s .g) (opp (s .d))) (s .d) (inner (P .encl (s .g) ++ stack P (s .cs))) ≡ tip P (s .g) (s .d) =
-      ap (ahead (edges τ) (tip P (s .g) (opp (s .d))) (s .d)) (inner-stack P (P .encl (s .g)) (s .cs) (w .plain (s .g)))
-      ∙ ahead-gap τ w (k .sits .q) (s .g) (s .d) (k .sits .lo) (k .sits .hi) in
+      let b : ahead τ (tip P (s .g) (opp (s .d))) (s .d) (P .encl (s .g) ++ stack P (s .cs)) ≡ tip P (s .g) (s .d) =
+      ahead-gap τ w (k .sits .q) (s .g) (s .d) (stack P (s .cs)) (stack-outside P (s .cs)) (k .sits .lo) (k .sits .hi) in
       subst⁻¹ (λ p. after τ (p .a) (p .d) (p .frames) ≡ p) (k .is) (λ i. record { a = view P s .a; b = b i; d = s .d; frames = view P s .frames })
 
   pub follows-unique : (p p′ : Place) → Fits τ p → Fits τ p′ → p .a ≡ p′ .a → p .d ≡ p′ .d → p .frames ≡ p′ .frames → p ≡ p′

@@ -8,13 +8,14 @@ use Rattle.moves.specs.Labels.{at, head}
 use Rattle.moves.specs.Edges.{Frame, inThen, inElse}
 use Rattle.moves.specs.Places.{Dir, down, up, Place, Fits}
 use Rattle.moves.specs.Stores.{Reason, Answer, ok, no, Store}
-use Rattle.moves.specs.Step.{act, nothing, step}
+use Rattle.moves.specs.Step.{step}
 use Rattle.moves.specs.Reasons.{Condition}
 use Rattle.moves.proofs.Linked.{Rec, nameL, beginL, endL, setL, skipL, ifL, elseL, fiL, fromL, loopL, untilL, callL, uncallL, Prog, forget, headOf, side}
 use Rattle.moves.proofs.Cuts.{met, Local, Wf, Sits}
 use Rattle.moves.proofs.Loop.{lo-met, hi-met, not-begin, not-end}
 use Rattle.moves.proofs.Rows.{prog}
 use Rattle.moves.proofs.Links.{at-is, head-is}
+use Rattle.moves.proofs.Acts.{act, nothing, step-is}
 use Rattle.moves.proofs.Gaps.{tip}
 use Rattle.moves.proofs.View.{stack}
 use Rattle.moves.proofs.Match.{fits-placed}
@@ -80,12 +81,11 @@ module _ (τ : Tree) (w : Wf τ (prog τ)) where
 
   -- The step answers r exactly if r's condition holds.
   pub refused : (p : Place) → Fits τ p → (σ : Store) (r : Reason) → step τ p σ ≡ no r ↔ Condition τ p σ r
-  unfolding step
   refused p f σ r =
       let ρ = at τ (p .b) in let h = head τ (p .b) in
       let k = perform-no τ (act ρ h (p .d)) p σ r in
-      let s = shape-fits p f in
-      (λ e. refuses-meets τ σ h (p .frames) ρ (p .d) r s (f .few) (k .0 e), λ c. k .1 (meets-refuses τ σ h (p .frames) ρ (p .d) r s c))
+      let s = shape-fits p f in let i = step-is τ p σ in
+      (λ e. refuses-meets τ σ h (p .frames) ρ (p .d) r s (f .few) (k .0 (sym i ∙ e)), λ c. i ∙ k .1 (meets-refuses τ σ h (p .frames) ρ (p .d) r s c))
 
   -- It arrives exactly if no condition holds.
   pub arrived : (p : Place) → Fits τ p → (σ : Store) → ((x : Place × Store) × (step τ p σ ≡ ok x)) ↔ ((r : Reason) → Condition τ p σ r → ⊥)

@@ -2,7 +2,7 @@
 use Prim.Native.Nat.{ℕ, suc, pred}
 use mathlib.Core.Path.{_≡_, refl, ap, sym}
 use mathlib.Core.Bool.{Bool, true, false}
-use mathlib.Core.List.{List, [], _∷_, _++_}
+use mathlib.Core.List.{List, [], _∷_, _++_, tail as pop}
 use native.Mathlib.Omega.{arith}
 use borrow.Author.Tests.{eq-eqb}
 use Rattle.expr.specs.Tree.{Expr}
@@ -10,11 +10,12 @@ use Rattle.order.specs.Trees.{Tree}
 use Rattle.moves.specs.Edges.{Frame, inDo, inLoop}
 use Rattle.moves.specs.Places.{Dir, down, up, opp}
 use Rattle.moves.specs.Stores.{ok, Store, holds, assigned}
-use Rattle.moves.specs.Step.{act, closes, opens, after, pop, wanted, again, perform, step}
+use Rattle.moves.specs.Step.{after, again, step}
 use Rattle.moves.proofs.Linked.{Rec, nameL, beginL, endL, setL, skipL, ifL, elseL, fiL, fromL, loopL, untilL, callL, uncallL, Prog}
 use Rattle.moves.proofs.Cuts.{Cut, met, leave, arm, port, through, cstep, Local, Wf, by-call, by-uncall, Sits}
 use Rattle.moves.proofs.Loop.{lo-met, hi-met, fit-gate, not-begin, not-end}
 use Rattle.moves.proofs.Rows.{prog}
+use Rattle.moves.proofs.Acts.{act, closes, opens, wanted, perform}
 use Rattle.moves.proofs.View.{stack, view, seen, fresh-stack, must-sim, opens-sim, either-sim, choose-sim, assign-sim, side-call, side-uncall, arrive3, arrive1, encl-left, sim-with, spot, ret-sim, enter-sim}
 
 module _ (τ : Tree) (w : Wf τ (prog τ)) where
@@ -49,10 +50,10 @@ module _ (τ : Tree) (w : Wf τ (prog τ)) where
   sim g d cs σ (nameL v ls) e h F = absurd (h (F .q) (lo-met τ P g d cs F) (hi-met τ P g d cs F))
   sim g down cs σ (beginL q) e h F = absurd (not-begin τ P g cs q h F)
   sim g up cs σ (beginL q) e (h, k, u) F =
-      sim-with τ w g up cs σ g e refl e (rw (let z : P .encl g ≡ [] = cc in z) (ret-sim τ w g up (F .q) cs σ (F .good) (F .few)))
+      sim-with τ w g up cs σ g e refl e (rw (let z : P .encl g ≡ [] = cc in z) (ret-sim τ w g (spot τ w g up cs g) (F .q) cs σ (F .good) (F .few)))
   sim g down cs σ (endL q) e (h, k, u) F =
       sim-with τ w g down cs σ (suc g) e refl e
-      (rw (let z : P .encl g ≡ [] = cc in z) (ret-sim τ w (suc g) down (F .q) cs σ (F .good) (F .few)))
+      (rw (let z : P .encl g ≡ [] = cc in z) (ret-sim τ w (suc g) (spot τ w g down cs (suc g)) (F .q) cs σ (F .good) (F .few)))
   sim g up cs σ (endL q) e h F = absurd (not-end τ P g cs q h F)
   sim g down cs σ (setL o t ε) e (i, k) F =
       sim-with τ w g down cs σ (suc g) e refl e (assign-sim P (assigned τ o t ε down σ) _ _ (arrive1 τ w g down cs F k (rw e) (encl-left τ w g down k)))

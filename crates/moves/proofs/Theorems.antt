@@ -1,18 +1,20 @@
 -- Demands 2 and 3: what is proved of every accepted file, every store of its size and every place that fits.
 use Prim.Native.Nat.{ℕ, _+_}
-use mathlib.Core.Path.{_≡_}
+use mathlib.Core.Path.{_≡_, ap, ap₂}
 use mathlib.Core.List.{List}
 use mathlib.Core.Logic.{_↔_}
+use Rattle.records.specs.Records.{names, begin, end, else, loop}
 use Rattle.order.specs.Trees.{Tree}
 use Rattle.program.specs.Says.{Accepts}
 use Rattle.moves.specs.Labels.{at, head}
-use Rattle.moves.specs.Places.{Dir, Place, turn, Fits}
+use Rattle.moves.specs.Places.{Dir, down, up, Place, turn, Fits}
 use Rattle.moves.specs.Stores.{Reason, atEnd, Answer, ok, no, bind, Store, Sized}
-use Rattle.moves.specs.Step.{act, nothing, step, stepBack, start}
+use Rattle.moves.specs.Step.{step, stepBack, start}
 use Rattle.moves.specs.Reasons.{Condition}
 use Rattle.moves.specs.Runs.{Wish, walk, made, Ran, run, runBack}
 use Rattle.moves.proofs.Cuts.{Cut, Sits}
 use Rattle.moves.proofs.Rows.{prog}
+use Rattle.moves.proofs.Acts.{act}
 use Rattle.moves.proofs.View.{view}
 use Rattle.moves.proofs.Match.{Placed}
 use Rattle.moves.proofs.Match as match
@@ -48,9 +50,18 @@ module _ {f : List ℕ} {t : Tree} (accepts : Accepts f t) where
   pub one-reason : (p : Place) → Fits t p → (σ : Store) (r r′ : Reason) → Condition t p σ r → Condition t p σ r′ → r ≡ r′
   one-reason = refusals.one-reason t (accepted-wf accepts)
 
-  -- No place that fits comes to the act that does nothing.
-  pub acts : (p : Place) → Fits t p → act (at t (p .b)) (head t (p .b)) (p .d) ≡ nothing → ⊥
-  acts = refusals.acts t (accepted-wf accepts)
+  -- No place that fits comes to a record that leaves all as it is: NAMES, ELSE, LOOP, BEGIN down and END up.
+  pub acts : (p : Place) → Fits t p → ((v : ℕ) (ls : List ℕ) → at t (p .b) ≡ names v ls → ⊥) × (at t (p .b) ≡ else → ⊥) × (at t (p .b) ≡ loop → ⊥)
+      × (at t (p .b) ≡ begin → p .d ≡ down → ⊥) × (at t (p .b) ≡ end → p .d ≡ up → ⊥)
+  unfolding act
+  acts p f =
+      let no = refusals.acts t (accepted-wf accepts) p f in let h = head t (p .b) in (
+        λ v ls e. no (ap (λ ρ. act ρ h (p .d)) e),
+        λ e. no (ap (λ ρ. act ρ h (p .d)) e),
+        λ e. no (ap (λ ρ. act ρ h (p .d)) e),
+        λ e k. no (ap₂ (λ ρ d. act ρ h d) e k),
+        λ e k. no (ap₂ (λ ρ d. act ρ h d) e k),
+      )
 
   -- 1, 2. Where a step forward arrives, the place fits, the store has its size, and the step back arrives at the former store, labels, direction and frames.
   pub back-undoes-forward : (p : Place) → Fits t p → (σ : Store) → Sized t σ → (p′ : Place) (σ′ : Store) → step t p σ ≡ ok (p′, σ′)

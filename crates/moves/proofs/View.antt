@@ -1,26 +1,28 @@
 -- A place is a cut seen through the document's labels and frames; the step on places is the step on cuts.
 use Prim.Native.Nat.{ℕ, _+_, _≤_, _<_}
 use mathlib.Core.Path.{_≡_, refl, ap, ap₂, sym, _∙_}
-use mathlib.Core.Bool.{Bool, true, false, not, cond}
+use mathlib.Core.Bool.{Bool, true, false, not, cond, Bool·beq as same}
 use mathlib.Core.List.{List, [], _∷_, _++_}
 use lib.ListN.{length}
-use lib.Dec.{ltb}
+use lib.Dec.{ltb, eqb}
 use native.Mathlib.Omega.{arith}
 use borrow.Author.Tests.{ltb-true}
 use Rattle.records.specs.Records.{kind}
 use Rattle.order.specs.Trees.{Tree}
 use Rattle.moves.specs.Labels.{at, head}
-use Rattle.moves.specs.Edges.{Frame, inThen, inElse, inDo, inLoop, called, edges}
+use Rattle.moves.specs.Edges.{Frame, inThen, inElse, inDo, inLoop, called, frameKind}
 use Rattle.moves.specs.Places.{Dir, down, up, opp, Place, calls, gate}
 use Rattle.moves.specs.Stores.{Answer, ok, no, bind, Store, tooDeep}
-use Rattle.moves.specs.Step.{act, enters, inner, ahead, after, again, same, must, resumed, returned, perform, step}
+use Rattle.moves.specs.Step.{after, again, inside, must, step}
+use Rattle.moves.specs.Step as does
 use Rattle.moves.proofs.Linked.{Con, Rec, callL, uncallL, Prog, forget, headOf, side, gateL}
 use Rattle.moves.proofs.Cuts.{Cut, met, gap, leave, enter′, return′, port, through, cstep, Span, SimpleOk, ProcOk, Wf, Good, in-main, by-call, by-uncall, Sits}
 use Rattle.moves.proofs.Loop.{met-gap, pos1, gate-pos, fit, fit1, fit3}
 use Rattle.moves.proofs.Rows.{prog}
 use Rattle.moves.proofs.Links.{at-is, head-is}
+use Rattle.moves.proofs.Acts.{act, enters, perform, step-is}
 use Rattle.moves.proofs.Gaps.{tip}
-use Rattle.moves.proofs.Follow.{ahead-gap}
+use Rattle.moves.proofs.Follow.{ahead, ahead-gap}
 
 abbrev pub stack : Prog → List ℕ → List Frame
 stack P [] = []
@@ -41,6 +43,15 @@ calls-append (inElse l ∷ F) G = calls-append F G
 calls-append (inDo l ∷ F) G = calls-append F G
 calls-append (inLoop l ∷ F) G = calls-append F G
 calls-append (called l ∷ F) G = omega (arith, calls-append F G)
+
+-- The frames down to the first call.
+abbrev pub inner : List Frame → List Frame
+inner [] = []
+inner (f ∷ F) = cond (eqb (frameKind f) 4) [] (f ∷ inner F)
+
+pub stack-outside : (P : Prog) (cs : List ℕ) → inside [] (stack P cs) ≡ true
+stack-outside P [] = refl
+stack-outside P (c ∷ cs) = refl
 
 pub inner-stack : (P : Prog) (F : List Frame) (cs : List ℕ) → calls F ≡ 0 → inner (F ++ stack P cs) ≡ F
 inner-stack P [] [] h = refl
@@ -121,8 +132,7 @@ module _ (τ : Tree) (w : Wf τ (prog τ)) where
   arrive b y d cs fs F h e k =
       let g = gap y d in
       let a : b ≡ tip P g (opp d) = sym e ∙ ap (λ x. side (P .at x) x (opp d)) (sym (met-gap y d h)) in
-      let i : inner fs ≡ P .encl g = ap inner k ∙ inner-stack P (P .encl g) cs (w .plain g) in
-      let n : ahead (edges τ) b d (inner fs) ≡ tip P g d = ap₂ (λ x F. ahead (edges τ) x d F) a i ∙ ahead-gap τ w (F .q) g d (F .lo) (F .hi) in
+      let n : ahead τ b d fs ≡ tip P g d = ap₂ (λ x F. ahead τ x d F) a k ∙ ahead-gap τ w (F .q) g d (stack P cs) (stack-outside P cs) (F .lo) (F .hi) in
       λ j. record { a = a j; b = n j; d = d; frames = k j }
 
   -- The same at a record of a construct, of which another was met.
@@ -142,11 +152,12 @@ module _ (τ : Tree) (w : Wf τ (prog τ)) where
   pub sim-with : (g : ℕ) (d : Dir) (cs : List ℕ) (σ : Store) (b : ℕ) {ρ ρb : Rec} → P .at (met g d) ≡ ρ → side ρ (met g d) d ≡ b → P .at b ≡ ρb
       → perform τ (act (forget ρb) (headOf ρb) d) (spot g d cs b) σ ≡ seen P (through τ P (port ρ (met g d) d) (met g d) d cs σ)
       → step τ (view P (record { g = g; d = d; cs = cs })) σ ≡ seen P (cstep τ P (record { g = g; d = d; cs = cs }) σ)
-  unfolding step cstep
+  unfolding cstep
   sim-with g d cs σ b {ρ} {ρb} e tb eb h =
-      ap (λ x. perform τ (act (at τ x) (head τ x) d) (spot g d cs x) σ) (rw e tb)
+      step-is τ (view P (record { g = g; d = d; cs = cs })) σ
+      ∙ (ap (λ x. perform τ (act (at τ x) (head τ x) d) (spot g d cs x) σ) (rw e tb)
       ∙ (ap₂ (λ r i. perform τ (act r i d) (spot g d cs b) σ) (at-is τ b ∙ ap forget eb) (head-is τ b ∙ ap headOf eb)
-      ∙ (h ∙ ap (λ k. seen P (through τ P (port k (met g d) d) (met g d) d cs σ)) (sym e)))
+      ∙ (h ∙ ap (λ k. seen P (through τ P (port k (met g d) d) (met g d) d cs σ)) (sym e))))
 
   encl-gap : (c : ℕ) (d : Dir) → SimpleOk P c → P .encl c ≡ P .encl (gap c d)
   encl-gap c down k = refl
@@ -165,17 +176,18 @@ module _ (τ : Tree) (w : Wf τ (prog τ)) where
   at-uncall : (c q : ℕ) → P .at c ≡ uncallL q → SimpleOk P c
   at-uncall c q e = (rw e at (w .here c)) .1
 
-  pub ret-sim : (x : ℕ) (d : Dir) (q : ℕ) (cs : List ℕ) (σ : Store) → Good P q cs → length cs ≤ 64
-      → returned τ d (stack P cs) σ ≡ seen P (through τ P return′ x d cs σ)
-  unfolding returned through seen kind
-  ret-sim x d q cs σ in-main n = refl
-  ret-sim x d q cs σ (by-call {q′ = q′} {c = c} {cs = cs′} ac lo hi o) n =
-      let r : resumed (kind (at τ c)) d ≡ d = rw (at-is τ c, ac) in
+  pub ret-sim : (x : ℕ) (p : Place) (q : ℕ) (cs : List ℕ) (σ : Store) → Good P q cs → length cs ≤ 64
+      → does.returns τ p σ (stack P cs) ≡ seen P (through τ P return′ x (p .d) cs σ)
+  unfolding through seen kind
+  ret-sim x p q cs σ in-main n = refl
+  ret-sim x p q cs σ (by-call {q′ = q′} {c = c} {cs = cs′} ac lo hi o) n =
+      let d = p .d in
+      let r : cond (eqb (kind (at τ c)) 12) (opp d) d ≡ d = rw (at-is τ c, ac) in
       ap (λ p. ok (p, σ)) (rw (r, ac) (arrive c c d cs′ _ (fit τ P q′ cs′ o (omega arith) c d lo hi) (omega arith) (rw ac (side-call q c (opp d)))
       (ap (λ k. k ++ stack P cs′) (encl-gap c d (at-call c q ac)))))
-  ret-sim x d q cs σ (by-uncall {q′ = q′} {c = c} {cs = cs′} ac lo hi o) n =
-      let d′ = opp d in
-      let r : resumed (kind (at τ c)) d ≡ opp d = rw (at-is τ c, ac) in
+  ret-sim x p q cs σ (by-uncall {q′ = q′} {c = c} {cs = cs′} ac lo hi o) n =
+      let d = p .d in let d′ = opp d in
+      let r : cond (eqb (kind (at τ c)) 12) (opp d) d ≡ opp d = rw (at-is τ c, ac) in
       ap (λ p. ok (p, σ)) (rw (r, ac) (arrive c c d′ cs′ _ (fit τ P q′ cs′ o (omega arith) c d′ lo hi) (omega arith) (rw ac (side-uncall q c (opp d′)))
       (ap (λ k. k ++ stack P cs′) (encl-gap c d′ (at-uncall c q ac)))))
 

@@ -1,7 +1,7 @@
 -- A step is refused for a reason exactly where the reason's condition holds.
 use Prim.Native.Nat.{ℕ, _≤_}
 use mathlib.Core.Path.{_≡_, refl, sym}
-use mathlib.Core.Bool.{Bool, true, false, not, cond}
+use mathlib.Core.Bool.{Bool, true, false, not, cond, Bool·beq as same}
 use mathlib.Core.List.{List, [], _∷_}
 use mathlib.Core.Logic.{_⊎_, inl, inr, _↔_, ⊎-elim}
 use lib.Dec.{ltb}
@@ -11,7 +11,9 @@ use Rattle.order.specs.Trees.{Tree}
 use Rattle.moves.specs.Edges.{Frame, called}
 use Rattle.moves.specs.Places.{Dir, Place, calls, gate}
 use Rattle.moves.specs.Stores.{Reason, atEnd, wrongValue, tooDeep, Answer, ok, no, bind, Store, holds, assigned}
-use Rattle.moves.specs.Step.{Act, assigns, moves, chooses, closes, opens, tests, enters, returns, nothing, after, wanted, again, same, must, returned, perform}
+use Rattle.moves.specs.Step.{after, again, must}
+use Rattle.moves.specs.Step as does
+use Rattle.moves.proofs.Acts.{Act, assigns, moves, chooses, closes, opens, tests, enters, returns, nothing, wanted, perform}
 
 pub ok-no : {A X : Type 0} (a : A) (r : Reason) → _≡_ {A = Answer A} (ok a) (no r) → X
 ok-no a r e = absurd (let z : _≡_ {A = ℕ} 0 1 = cc in let y : ⊥ = omega arith in y)
@@ -59,10 +61,9 @@ deep-no : {A : Type 0} (b : Bool) (x : A) (r : Reason) → cond b (ok x) (no too
 deep-no true x r = (λ e. ok-no x r e, λ h. let k = h .0 in cc)
 deep-no false x r = (λ e. (refl, cc), λ h. let k = h .1 in cc)
 
-return-no : (τ : Tree) (d : Dir) (fs : List Frame) (σ : Store) (r : Reason) → returned τ d fs σ ≡ no r ↔ (fs ≡ []) × (r ≡ atEnd)
-unfolding returned
-return-no τ d [] σ r = (λ e. (refl, cc), λ h. let k = h .1 in cc)
-return-no τ d (f ∷ F) σ r = (λ e. ok-no _ r e, λ h. let k = h .0 in cc)
+return-no : (τ : Tree) (p : Place) (fs : List Frame) (σ : Store) (r : Reason) → does.returns τ p σ fs ≡ no r ↔ (fs ≡ []) × (r ≡ atEnd)
+return-no τ p [] σ r = (λ e. (refl, cc), λ h. let k = h .1 in cc)
+return-no τ p (f ∷ F) σ r = (λ e. ok-no _ r e, λ h. let k = h .0 in cc)
 
 pub perform-no : (τ : Tree) (α : Act) (p : Place) (σ : Store) (r : Reason) → perform τ α p σ ≡ no r ↔ Refuses τ α (p .d) (p .frames) σ r
 unfolding perform
@@ -75,5 +76,5 @@ perform-no τ (tests e h) p σ r = bind-no (holds τ σ e) _ r
 perform-no τ (enters q d) p σ r =
     let k = deep-no {A = Place × Store} (ltb (calls (p .frames)) 64) (after τ (gate τ q d) d (called (p .b) ∷ p .frames), σ) r in
     (λ e. let h = k .0 e in (ltb-false _ _ (h .0), h .1), λ h. k .1 (le-ltb _ _ (h .0), h .1))
-perform-no τ returns p σ r = return-no τ (p .d) (p .frames) σ r
+perform-no τ returns p σ r = return-no τ p (p .frames) σ r
 perform-no τ nothing p σ r = (λ e. ok-no _ r e, λ h. absurd h)

@@ -5,7 +5,7 @@ use mathlib.Core.Logic.{_⊎_}
 use mathlib.Core.Path.{_≡_}
 use mathlib.Core.Bool.{cond}
 use lib.Dec.{eqb}
-pub use Rattle.place.specs.Places.{Dir, down, up, opp, Place, turn}
+pub use Rattle.place.specs.Places.{Dir, down, up, going, opp, Place, turn}
 use Rattle.records.specs.Records.{call, uncall}
 use Rattle.order.specs.Trees.{Tree}
 use Rattle.moves.specs.Labels.{at, beginOf, endOf}
@@ -13,8 +13,7 @@ use Rattle.moves.specs.Edges.{Frame, called, frameKind, Edge, edges}
 
 -- Where an edge comes from and where it goes to, in a direction: "Upward edges are these reversed."
 abbrev pub near : Edge → Dir → ℕ
-near e down = e .a
-near e up = e .b
+near e d = going d (e .a) (e .b)
 
 abbrev pub far : Edge → Dir → ℕ
 far e d = near e (opp d)
@@ -48,5 +47,4 @@ pub record Fits (t : Tree) (p : Place) : Type 0 where
 
 -- The label that a procedure is entered by in a direction, and left by in the opposite one.
 abbrev pub gate : Tree → ℕ → Dir → ℕ
-gate t q down = beginOf t q
-gate t q up = endOf t q
+gate t q d = going d (beginOf t q) (endOf t q)

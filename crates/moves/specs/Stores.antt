@@ -1,5 +1,5 @@
 -- Document 01, 'Values' and 'Labels, places, moves': why a step is refused, stores, and what a SET does to one.
-use Prim.Native.Nat.{ℕ, zero, suc, _+_}
+use Prim.Native.Nat.{ℕ, _+_}
 use mathlib.Core.List.{List, [], _∷_}
 use mathlib.Core.Bool.{Bool, cond}
 use mathlib.Core.Path.{_≡_}
@@ -12,7 +12,7 @@ use Rattle.values.specs.Values.{wrap, xorZ, isTrue}
 use Rattle.expr.specs.Tree.{Expr, Arrays, Fault, byZero, badIndex as outside, Worth, value, stop, eval}
 use Rattle.records.specs.Records.{Target, cell, entry}
 use Rattle.order.specs.Trees.{Tree, cells}
-use Rattle.moves.specs.Places.{Dir, down, up}
+use Rattle.moves.specs.Places.{Dir, going}
 
 -- The five reasons why a step is refused, and their numbers.
 pub data Reason : Type 0 where
@@ -68,15 +68,10 @@ holds t σ e = bind (evaluated t σ e) (λ v. ok (isTrue v))
 
 -- "operator (0 `+`, 1 `-`, 2 `^`)"; "SET down applies its operator, up the opposite one (`^` is its own)."
 abbrev pub applied : ℕ → ℤ → ℤ → ℤ
-applied zero x v = wrap (x +ℤ v)
-applied (suc zero) x v = wrap (x -ℤ v)
-applied (suc (suc o)) x v = xorZ x v
+applied o x v = getD (wrap (x +ℤ v) ∷ wrap (x -ℤ v) ∷ []) o (xorZ x v)
 
 abbrev pub operator : ℕ → Dir → ℕ
-operator o down = o
-operator zero up = 1
-operator (suc zero) up = 0
-operator (suc (suc o)) up = suc (suc o)
+operator o d = going d o (getD (1 ∷ 0 ∷ []) o o)
 
 -- "An array's index is evaluated and tested first, then the expression."
 abbrev pub entryAt : Tree → ℕ → ℤ → Answer ℕ
