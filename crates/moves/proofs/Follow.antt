@@ -8,8 +8,8 @@ use native.Mathlib.Omega.{arith}
 use borrow.Author.Tests.{eq-eqb, eqb-true}
 use Rattle.order.specs.Trees.{Tree}
 use Rattle.moves.specs.Edges.{Frame, inThen, inElse, inDo, inLoop, called, frameKind, frameLabel, Edge, edges}
-use Rattle.moves.specs.Places.{Dir, down, up, opp, near, far, calls}
-use Rattle.moves.specs.Step.{find, inside}
+use Rattle.moves.specs.Places.{Dir, down, up, opp, near, far, find, top, head, calls}
+use Rattle.moves.specs.Step.{inside}
 use Rattle.moves.proofs.Linked.{Con, Rec, nameL, beginL, endL, setL, skipL, ifL, elseL, fiL, fromL, loopL, untilL, callL, uncallL, Prog, onto, off}
 use Rattle.moves.proofs.Cuts.{CondOk, LoopOk, Local, Wf}
 use Rattle.moves.proofs.Rows.{prog}
@@ -168,6 +168,29 @@ module _ (τ : Tree) (P : Prog) where
   one-gap w up g g′ h e =
       ap pred (one-lower g g′ (tip P g down) (lower-at g _ refl (w .here (suc g))) (subst (Lower P g′) (sym h) (lower-at g′ _ refl (w .here (suc g′)))) e)
 
+  -- Every edge that leaves the record of a construct into it has the construct as its innermost.
+  if-down : (g x : ℕ) (c : Con) → CondOk P c → x ≡ c .l → Upper P g x → frameLabel (top (P .encl g)) ≡ c .l
+  if-down g x c k e (plain h) = cc
+  if-down g x c k e (of-else c′ k′ i j) = cc
+  if-down g x c k e (of-loop c′ k′ i j) = cc
+
+  from-down : (g x : ℕ) (c : Con) → LoopOk P c → x ≡ c .l → Upper P g x → frameLabel (top (P .encl g)) ≡ c .l
+  from-down g x c k e (plain h) = cc
+  from-down g x c k e (of-else c′ k′ i j) = cc
+  from-down g x c k e (of-loop c′ k′ i j) = cc
+
+  fi-up : (g x : ℕ) (c : Con) → CondOk P c → x ≡ c .r → Lower P g x → frameLabel (top (P .encl g)) ≡ c .l
+  fi-up g x c k e (plain h p) = let z : g ≡ pred (c .r) = omega arith in cc
+  fi-up g x c k e (of-else c′ k′ i j) = let z : g ≡ pred (c′ .m) = omega arith in cc
+  fi-up g x c k e (of-loop c′ k′ i j) = cc
+  fi-up g x c k e (of-until c′ k′ i j) = cc
+
+  until-up : (g x : ℕ) (c : Con) → LoopOk P c → x ≡ c .r → Lower P g x → frameLabel (top (P .encl g)) ≡ c .l
+  until-up g x c k e (plain h p) = not-until g c k (cc) p
+  until-up g x c k e (of-else c′ k′ i j) = cc
+  until-up g x c k e (of-loop c′ k′ i j) = let z : g ≡ pred (c′ .m) = omega arith in cc
+  until-up g x c k e (of-until c′ k′ i j) = cc
+
 near-gap : (P : Prog) (q g : ℕ) (d : Dir) → near (gapAt P q g) d ≡ tip P g (opp d)
 near-gap P q g down = refl
 near-gap P q g up = refl
@@ -202,3 +225,42 @@ ahead-gap τ w q g d S s lo hi = find-is f (λ e. far e d) (edges τ) (gapAt P q
         (sym (near-gap P (e .proc) (r .g) d) ∙ (ap (λ x. near x d) (sym (r .is)) ∙ eqb-true _ _ (y .0)))
         (sym in-r ∙ inside-only (e .within) (P .encl g) S s (ap calls in-r ∙ w .plain (r .g)) (w .plain g) (y .1)) in
         ap (λ x. far x d) (r .is) ∙ (far-gap P (e .proc) (r .g) d ∙ (ap (λ x. tip P x d) z ∙ sym (far-gap P q g d)))
+
+-- The construct that is entered from x: x stands at the gap g of a procedure, and at no gap that is not that construct's.
+module _ (τ : Tree) (w : Wf τ (prog τ)) where
+  abbrev P : Prog
+  P = prog τ
+
+  entered : (q g : ℕ) (d : Dir) (l : ℕ) → P .first q ≤ g → g < P .last q
+      → ((g′ : ℕ) → tip P g′ (opp d) ≡ tip P g (opp d) → frameLabel (top (P .encl g′)) ≡ l) → head τ (tip P g (opp d)) d ≡ l
+  entered q g d l lo hi u =
+      find-is (λ e. eqb (near e d) (tip P g (opp d))) (λ e. frameLabel (top (e .within))) (edges τ) (gapAt P q g) (edge-on τ q g lo hi)
+      (eq-eqb _ _ (near-gap P q g d)) only ∙ u g refl
+    where
+      only : (e : Edge) → List·Memᴰ e (edges τ) → eqb (near e d) (tip P g (opp d)) ≡ true → frameLabel (top (e .within)) ≡ frameLabel (top (P .encl g))
+      only e m k =
+          let r = on-edge τ e m in
+          ap (λ x. frameLabel (top (x .within))) (r .is)
+          ∙ (u (r .g) (sym (near-gap P (e .proc) (r .g) d) ∙ (ap (λ x. near x d) (sym (r .is)) ∙ eqb-true _ _ k)) ∙ sym (u g refl))
+
+  pub head-if : (q : ℕ) (c : Con) → CondOk P c → P .first q ≤ c .l → c .l < P .last q → head τ (c .l) down ≡ c .l
+  head-if q c k lo hi =
+      let t : tip P (c .l) up ≡ c .l = rw (k .at-l) in
+      rw t at (entered q (c .l) down (c .l) lo hi (λ g e. if-down τ P g (c .l) c k refl (subst (Upper P g) (e ∙ t) (upper-at τ P g _ refl (w .here g)))))
+
+  pub head-from : (q : ℕ) (c : Con) → LoopOk P c → P .first q ≤ c .l → c .l < P .last q → head τ (c .l) down ≡ c .l
+  head-from q c k lo hi =
+      let t : tip P (c .l) up ≡ c .l = rw (k .at-l) in
+      rw t at (entered q (c .l) down (c .l) lo hi (λ g e. from-down τ P g (c .l) c k refl (subst (Upper P g) (e ∙ t) (upper-at τ P g _ refl (w .here g)))))
+
+  pub head-fi : (q : ℕ) (c : Con) → CondOk P c → P .first q ≤ pred (c .r) → pred (c .r) < P .last q → head τ (c .r) up ≡ c .l
+  head-fi q c k lo hi =
+      let i : suc (pred (c .r)) ≡ c .r = omega arith in
+      let t : tip P (pred (c .r)) down ≡ c .r = rw (i, k .at-r) in
+      rw t at (entered q (pred (c .r)) up (c .l) lo hi (λ g e. fi-up τ P g (c .r) c k refl (subst (Lower P g) (e ∙ t) (lower-at τ P g _ refl (w .here (suc g))))))
+
+  pub head-until : (q : ℕ) (c : Con) → LoopOk P c → P .first q ≤ pred (c .m) → pred (c .m) < P .last q → head τ (c .r) up ≡ c .l
+  head-until q c k lo hi =
+      let i : suc (pred (c .m)) ≡ c .m = omega arith in
+      let t : tip P (pred (c .m)) down ≡ c .r = rw (i, k .at-m) in
+      rw t at (entered q (pred (c .m)) up (c .l) lo hi (λ g e. until-up τ P g (c .r) c k refl (subst (Lower P g) (e ∙ t) (lower-at τ P g _ refl (w .here (suc g))))))

@@ -6,8 +6,8 @@ use mathlib.Core.Logic.{_↔_}
 use Rattle.records.specs.Records.{names, begin, end, else, loop}
 use Rattle.order.specs.Trees.{Tree}
 use Rattle.program.specs.Says.{Accepts}
-use Rattle.moves.specs.Labels.{at, head}
-use Rattle.moves.specs.Places.{Dir, down, up, Place, turn, Fits}
+use Rattle.moves.specs.Labels.{at}
+use Rattle.moves.specs.Places.{Dir, down, up, Place, turn, head, Fits}
 use Rattle.moves.specs.Stores.{Reason, atEnd, Answer, ok, no, bind, Store, Sized}
 use Rattle.moves.specs.Step.{step, stepBack, start}
 use Rattle.moves.specs.Reasons.{Condition}
@@ -55,7 +55,7 @@ module _ {f : List ℕ} {t : Tree} (accepts : Accepts f t) where
       × (at t (p .b) ≡ begin → p .d ≡ down → ⊥) × (at t (p .b) ≡ end → p .d ≡ up → ⊥)
   unfolding act
   acts p f =
-      let no = refusals.acts t (accepted-wf accepts) p f in let h = head t (p .b) in (
+      let no = refusals.acts t (accepted-wf accepts) p f in let h = head t (p .b) (p .d) in (
         λ v ls e. no (ap (λ ρ. act ρ h (p .d)) e),
         λ e. no (ap (λ ρ. act ρ h (p .d)) e),
         λ e. no (ap (λ ρ. act ρ h (p .d)) e),

@@ -28,7 +28,7 @@ Refuses τ moves d fs σ r = ⊥
 Refuses τ (chooses e h) d fs σ r = holds τ σ e ≡ no r
 Refuses τ (closes e) d fs σ r = (holds τ σ e ≡ no r) ⊎ ((holds τ σ e ≡ ok (not (wanted fs))) × (r ≡ wrongValue))
 Refuses τ (opens e h) d fs σ r = (holds τ σ e ≡ no r) ⊎ ((holds τ σ e ≡ ok (again h fs)) × (r ≡ wrongValue))
-Refuses τ (tests e h) d fs σ r = holds τ σ e ≡ no r
+Refuses τ (tests e) d fs σ r = holds τ σ e ≡ no r
 Refuses τ (enters q d′) d fs σ r = (64 ≤ calls fs) × (r ≡ tooDeep)
 Refuses τ returns d fs σ r = (fs ≡ []) × (r ≡ atEnd)
 Refuses τ nothing d fs σ r = ⊥
@@ -72,7 +72,7 @@ perform-no τ moves p σ r = (λ e. ok-no _ r e, λ h. absurd h)
 perform-no τ (chooses e h) p σ r = bind-no (holds τ σ e) _ r
 perform-no τ (closes e) p σ r = must-no (holds τ σ e) (wanted (p .frames)) _ r
 perform-no τ (opens e h) p σ r = open-no (holds τ σ e) (again h (p .frames)) _ _ r
-perform-no τ (tests e h) p σ r = bind-no (holds τ σ e) _ r
+perform-no τ (tests e) p σ r = bind-no (holds τ σ e) _ r
 perform-no τ (enters q d) p σ r =
     let k = deep-no {A = Place × Store} (ltb (calls (p .frames)) 64) (after τ (gate τ q d) d (called (p .b) ∷ p .frames), σ) r in
     (λ e. let h = k .0 e in (ltb-false _ _ (h .0), h .1), λ h. k .1 (le-ltb _ _ (h .0), h .1))

@@ -1,6 +1,6 @@
 -- Document 01, 'Labels, places, moves': which record has which label, and which records belong together.
 use Prim.Native.Nat.{ℕ, zero, suc, _+_, pred}
-use mathlib.Core.List.{List, [], _∷_, _++_}
+use mathlib.Core.List.{List, [], _∷_}
 use lib.ListN.{getD}
 use Rattle.records.specs.Records.{Record, names}
 use Rattle.order.specs.Trees.{Stmt, setS, skipS, callS, uncallS, ifS, fromS, Block, one, _then_, Tree, procedures, recordsOf}
@@ -34,27 +34,6 @@ middle n s = suc n + sizeB s
 
 abbrev pub ending : ℕ → Block → Block → ℕ
 ending n s t = suc (middle n s) + sizeB t
-
--- For each record the label of the IF or FROM of the construct that it is a part of; 0 for a record that is a part of none.
-unfoldable mutual
-  pub headsS : Stmt → ℕ → List ℕ
-  headsS (setS o t e) n = 0 ∷ []
-  headsS skipS n = 0 ∷ []
-  headsS (callS q) n = 0 ∷ []
-  headsS (uncallS q) n = 0 ∷ []
-  headsS (ifS e s t e′) n = n ∷ (headsB s (suc n) ++ (n ∷ (headsB t (suc (middle n s)) ++ (n ∷ []))))
-  headsS (fromS e s t e′) n = n ∷ (headsB s (suc n) ++ (n ∷ (headsB t (suc (middle n s)) ++ (n ∷ []))))
-
-  pub headsB : Block → ℕ → List ℕ
-  headsB (one s) n = headsS s n
-  headsB (_then_ s b) n = headsS s n ++ headsB b (n + sizeS s)
-
-unfoldable pub headsP : List Block → ℕ → List ℕ
-headsP [] n = []
-headsP (b ∷ bs) n = 0 ∷ (headsB b (suc n) ++ (0 ∷ headsP bs (suc (suc n + sizeB b))))
-
-abbrev pub head : Tree → ℕ → ℕ
-head t x = getD (0 ∷ headsP (procedures t) 1) x 0
 
 -- The labels of the BEGIN and of the END of procedure q, of the procedures bs that stand from label n on.
 unfoldable pub beginFrom : List Block → (n q : ℕ) → ℕ

@@ -3,13 +3,14 @@ use Prim.Native.Nat.{ℕ, suc, _≤_}
 use mathlib.Core.List.{List, [], _∷_, _++_, List·Memᴰ}
 use mathlib.Core.Logic.{_⊎_}
 use mathlib.Core.Path.{_≡_}
-use mathlib.Core.Bool.{cond}
+use mathlib.Core.Bool.{Bool, cond}
+use lib.ListN.{getD}
 use lib.Dec.{eqb}
 pub use Rattle.place.specs.Places.{Dir, down, up, going, opp, Place, turn}
 use Rattle.records.specs.Records.{call, uncall}
 use Rattle.order.specs.Trees.{Tree}
 use Rattle.moves.specs.Labels.{at, beginOf, endOf}
-use Rattle.moves.specs.Edges.{Frame, called, frameKind, Edge, edges}
+use Rattle.moves.specs.Edges.{Frame, called, frameKind, frameLabel, Edge, edge, edges}
 
 -- Where an edge comes from and where it goes to, in a direction: "Upward edges are these reversed."
 abbrev pub near : Edge → Dir → ℕ
@@ -17,6 +18,19 @@ near e d = going d (e .a) (e .b)
 
 abbrev pub far : Edge → Dir → ℕ
 far e d = near e (opp d)
+
+-- The first edge of which this holds.
+unfoldable pub find : (Edge → Bool) → List Edge → Edge
+find f [] = edge 0 [] 0 0
+find f (e ∷ es) = cond (f e) e (find f es)
+
+-- The innermost frame; where there is none, as if it were a call.
+abbrev pub top : List Frame → Frame
+top fs = getD fs 0 (called 0)
+
+-- The label of the construct that is entered from x in direction d: that of the innermost frame of the edges that leave x.
+abbrev pub head : Tree → ℕ → Dir → ℕ
+head t x d = frameLabel (top (find (λ e. eqb (near e d) x) (edges t) .within))
 
 -- How many of the frames are calls.
 abbrev pub calls : List Frame → ℕ

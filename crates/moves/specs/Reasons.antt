@@ -10,9 +10,9 @@ use Rattle.values.specs.Values.{isTrue}
 use Rattle.expr.specs.Tree.{Expr, read, bin, Fault, byZero, badIndex as outside, value, eval}
 use Rattle.records.specs.Records.{cell, entry, Record, begin, end, assign, if, fi, from, until, call, uncall}
 use Rattle.order.specs.Trees.{Tree}
-use Rattle.moves.specs.Labels.{at, head}
+use Rattle.moves.specs.Labels.{at}
 use Rattle.moves.specs.Edges.{Frame, inThen, inElse, inLoop}
-use Rattle.moves.specs.Places.{Dir, down, up, Place, calls}
+use Rattle.moves.specs.Places.{Dir, down, up, Place, head, calls}
 use Rattle.moves.specs.Stores.{Reason, atEnd, wrongValue, zeroDivisor, badIndex, tooDeep, Store, layout}
 
 -- 30: "END down or BEGIN up of main, no call left" (where a place fits and no call is left, the record lies in main)
@@ -81,4 +81,4 @@ Meets t σ h fs ρ d badIndex = Faults t σ ρ outside
 Meets t σ h fs ρ d tooDeep = TooDeep fs ρ
 
 abbrev pub Condition : Tree → Place → Store → Reason → Type 0
-Condition t p σ r = Meets t σ (head t (p .b)) (p .frames) (at t (p .b)) (p .d) r
+Condition t p σ r = Meets t σ (head t (p .b) (p .d)) (p .frames) (at t (p .b)) (p .d) r

@@ -2,20 +2,14 @@
 use Prim.Native.Nat.{ℕ}
 use mathlib.Core.List.{List, [], _∷_, tail}
 use mathlib.Core.Bool.{Bool, true, false, not, cond, _&&_, Bool·beq}
-use lib.ListN.{getD}
 use lib.Dec.{ltb, eqb}
 use Rattle.expr.specs.Tree.{Expr}
 use Rattle.records.specs.Records.{Record, names, begin, end, assign, if, else, fi, from, loop, until, call, uncall, skip, kind}
 use Rattle.order.specs.Trees.{Tree}
-use Rattle.moves.specs.Labels.{at, head}
-use Rattle.moves.specs.Edges.{Frame, inThen, inElse, inDo, inLoop, called, frameKind, frameLabel, Edge, edge, edges}
-use Rattle.moves.specs.Places.{Dir, going, opp, Place, turn, near, far, calls, gate}
+use Rattle.moves.specs.Labels.{at}
+use Rattle.moves.specs.Edges.{Frame, inThen, inElse, inDo, inLoop, called, frameKind, frameLabel, edges}
+use Rattle.moves.specs.Places.{Dir, going, opp, Place, turn, near, far, find, top, head, calls, gate}
 use Rattle.moves.specs.Stores.{Answer, ok, no, atEnd, wrongValue, tooDeep, bind, Store, holds, assigned}
-
--- The first edge of which this holds.
-unfoldable pub find : (Edge → Bool) → List Edge → Edge
-find f [] = edge 0 [] 0 0
-find f (e ∷ es) = cond (f e) e (find f es)
 
 -- The frames down to the first call are exactly these.
 abbrev pub inside : List Frame → List Frame → Bool
@@ -27,10 +21,6 @@ inside (f ∷ F) (g ∷ G) = eqb (frameKind f) (frameKind g) && (eqb (frameLabel
 -- "b follows it on the edge": the edge that leaves a in direction d, inside the constructs that the frames say.
 unfoldable pub after : Tree → ℕ → Dir → List Frame → Place
 after t a d fs = record { a = a; b = far (find (λ e. eqb (near e d) a && inside (e .within) fs) (edges t)) d; d = d; frames = fs }
-
--- The innermost frame; where there is none, as if it were a call.
-abbrev pub top : List Frame → Frame
-top fs = getD fs 0 (called 0)
 
 -- One comes to the loop h from its s2.
 abbrev pub again : ℕ → List Frame → Bool
@@ -46,21 +36,21 @@ module _ (t : Tree) (p : Place) (σ : Store) where
   past fs = after t (p .b) (p .d) fs
 
   -- "the expression true takes s1 and pushes frame 0, false takes s2 and pushes 1"
-  abbrev pub chooses : Expr → ℕ → Answer (Place × Store)
-  chooses e h = bind (holds t σ e) (λ v. ok (past (cond v (inThen h) (inElse h) ∷ p .frames), σ))
+  abbrev pub chooses : Expr → Answer (Place × Store)
+  chooses e = let h = head t (p .b) (p .d) in bind (holds t σ e) (λ v. ok (past (cond v (inThen h) (inElse h) ∷ p .frames), σ))
 
   -- "value and frame must agree; the frame is popped"
   abbrev pub closes : Expr → Answer (Place × Store)
   closes e = bind (holds t σ e) (λ v. must (Bool·beq v (eqb (frameKind (top (p .frames))) 0)) (past (tail (p .frames)), σ))
 
   -- "coming from outside the value must be true, push 2 and enter s1; coming from s2 it must be false, frame 3 becomes 2"
-  abbrev pub opens : Expr → ℕ → Answer (Place × Store)
-  opens e h =
-      bind (holds t σ e) (λ v. cond (again h (p .frames)) (must (not v) (past (inDo h ∷ tail (p .frames)), σ)) (must v (past (inDo h ∷ p .frames), σ)))
+  abbrev pub opens : Expr → Answer (Place × Store)
+  opens e = let h = head t (p .b) (p .d) in bind (holds t σ e)
+      (λ v. cond (again h (p .frames)) (must (not v) (past (inDo h ∷ tail (p .frames)), σ)) (must v (past (inDo h ∷ p .frames), σ)))
 
   -- "true leaves the loop and pops; false turns 2 into 3 and enters s2"
-  abbrev pub tests : Expr → ℕ → Answer (Place × Store)
-  tests e h = bind (holds t σ e) (λ v. ok (past (cond v (tail (p .frames)) (inLoop h ∷ tail (p .frames))), σ))
+  abbrev pub tests : Expr → Answer (Place × Store)
+  tests e = bind (holds t σ e) (λ v. ok (past (cond v (tail (p .frames)) (inLoop (frameLabel (top (p .frames))) ∷ tail (p .frames))), σ))
 
   -- "a becomes its BEGIN going down, its END going up. It pushes 4." 34: "a 65th call"
   abbrev pub enters : ℕ → Dir → Answer (Place × Store)
@@ -71,24 +61,24 @@ module _ (t : Tree) (p : Place) (σ : Store) where
   returns [] = no atEnd
   returns (f ∷ F) = ok (after t (frameLabel f) (cond (eqb (kind (at t (frameLabel f))) 12) (opp (p .d)) (p .d)) F, σ)
 
-  -- What executing a record is. `h` is the label of its IF or FROM. No place that fits comes to a record that leaves all as it is.
-  unfoldable pub executes : Record → (h : ℕ) → Answer (Place × Store)
-  executes (names v ls) h = ok (p, σ)
-  executes begin h = going (p .d) (ok (p, σ)) (returns (p .frames))
-  executes end h = going (p .d) (returns (p .frames)) (ok (p, σ))
-  executes (assign o x e) h = bind (assigned t o x e (p .d) σ) (λ σ′. ok (past (p .frames), σ′))
-  executes (if e) h = going (p .d) (chooses e h) (closes e)
-  executes else h = ok (p, σ)
-  executes (fi e) h = going (p .d) (closes e) (chooses e h)
-  executes (from e) h = going (p .d) (opens e h) (tests e h)
-  executes loop h = ok (p, σ)
-  executes (until e) h = going (p .d) (tests e h) (opens e h)
-  executes (call q) h = enters q (p .d)
-  executes (uncall q) h = enters q (opp (p .d))
-  executes skip h = ok (past (p .frames), σ)
+  -- What executing a record is. No place that fits comes to a record that leaves all as it is.
+  unfoldable pub executes : Record → Answer (Place × Store)
+  executes (names v ls) = ok (p, σ)
+  executes begin = going (p .d) (ok (p, σ)) (returns (p .frames))
+  executes end = going (p .d) (returns (p .frames)) (ok (p, σ))
+  executes (assign o x e) = bind (assigned t o x e (p .d) σ) (λ σ′. ok (past (p .frames), σ′))
+  executes (if e) = going (p .d) (chooses e) (closes e)
+  executes else = ok (p, σ)
+  executes (fi e) = going (p .d) (closes e) (chooses e)
+  executes (from e) = going (p .d) (opens e) (tests e)
+  executes loop = ok (p, σ)
+  executes (until e) = going (p .d) (tests e) (opens e)
+  executes (call q) = enters q (p .d)
+  executes (uncall q) = enters q (opp (p .d))
+  executes skip = ok (past (p .frames), σ)
 
 unfoldable pub step : Tree → Place → Store → Answer (Place × Store)
-step t p σ = executes t p σ (at t (p .b)) (head t (p .b))
+step t p σ = executes t p σ (at t (p .b))
 
 -- "A step back from (a, b, d) is a step forward from (b, a, opposite d), frames and store the same, its result turned round again."
 unfoldable pub stepBack : Tree → Place → Store → Answer (Place × Store)
