@@ -6,13 +6,17 @@ use Rattle.order.specs.Trees.{Tree}
 use Rattle.moves.specs.Places.{Dir, Place, Fits}
 use Rattle.moves.specs.Stores.{Answer, ok, no, Store, Sized, Reason, atEnd}
 use Rattle.moves.specs.Step.{step, stepBack, start}
-use Rattle.moves.specs.Runs.{made, because, Ran, counted, onward, runBy, run, runBack}
+use Rattle.moves.specs.Runs.{made, because, Ran, onward, runBy, run, runBack}
 use Rattle.moves.proofs.Cuts.{Wf}
 use Rattle.moves.proofs.Rows.{prog}
 use Rattle.moves.proofs.Undo.{back-undoes, forward-undoes, start-fits, start-refused}
 
 abbrev Step : Type 0
 Step = Place → Store → Answer (Place × Store)
+
+-- One step more.
+abbrev counted : Ran → Ran
+counted r = record { steps = suc (r .steps); place = r .place; store = r .store; stop = r .stop }
 
 -- k single steps lead from p and σ to p′ and σ′.
 pub data Steps (s : Step) : ℕ → Place → Store → Place → Store → Type 0 where

@@ -11,7 +11,7 @@ use Rattle.moves.specs.Places.{Dir, down, up, Place, turn, head, Fits}
 use Rattle.moves.specs.Stores.{Reason, atEnd, Answer, ok, no, bind, Store, Sized}
 use Rattle.moves.specs.Step.{step, stepBack, start}
 use Rattle.moves.specs.Reasons.{Condition}
-use Rattle.moves.specs.Runs.{Wish, walk, made, Ran, run, runBack}
+use Rattle.moves.specs.Runs.{Walk, made, Ran, run, runBack}
 use Rattle.moves.proofs.Cuts.{Cut, Sits}
 use Rattle.moves.proofs.Rows.{prog}
 use Rattle.moves.proofs.Acts.{act}
@@ -79,12 +79,12 @@ module _ {f : List ℕ} {t : Tree} (accepts : Accepts f t) where
   pub start-refused : (d : Dir) (σ : Store) → stepBack t (start t d) σ ≡ no atEnd
   start-refused = undo.start-refused t (accepted-wf accepts)
 
-  pub walk-refused : (d : Dir) (σ : Store) → Sized t σ → (ws : List Wish) (r : Reason) → stepBack t (walk t ws (start t d, σ) .0) (walk t ws (start t d, σ) .1) ≡ no r
-      → (walk t ws (start t d, σ) .0 ≡ start t d) × (walk t ws (start t d, σ) .1 ≡ σ) × (r ≡ atEnd)
-  walk-refused d σ so = walks.walk-back t (accepted-wf accepts) d σ so
+  pub walk-refused : (d : Dir) (σ₀ : Store) → Sized t σ₀ → {p : Place} {σ : Store} (r : Reason) → Walk t (start t d) σ₀ p σ → stepBack t p σ ≡ no r
+      → (p ≡ start t d) × (σ ≡ σ₀) × (r ≡ atEnd)
+  walk-refused d σ₀ so = walks.walk-back t (accepted-wf accepts) d σ₀ so
 
-  pub walk-fits : (d : Dir) (σ : Store) → Sized t σ → (ws : List Wish) → Fits t (walk t ws (start t d, σ) .0) × Sized t (walk t ws (start t d, σ) .1)
-  walk-fits d σ so = walks.walk-fits t (accepted-wf accepts) d σ so
+  pub walk-fits : (d : Dir) (σ₀ : Store) → Sized t σ₀ → {p : Place} {σ : Store} → Walk t (start t d) σ₀ p σ → Fits t p × Sized t σ
+  walk-fits d σ₀ so = walks.walk-fits t (accepted-wf accepts) d σ₀ so
 
   -- 4. As many steps back as a run made undo it, and the other way round; its last place fits. (That it is that many single steps needs no accepted file.)
   pub run-undone : (n : ℕ) (p : Place) (σ : Store) → Fits t p → Sized t σ

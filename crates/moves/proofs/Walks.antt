@@ -1,13 +1,13 @@
 -- However one walks forth and back from a start, going back is refused only at the start itself, and there as the end.
 use Prim.Native.Nat.{ℕ}
 use mathlib.Core.Path.{_≡_, refl, subst}
-use mathlib.Core.List.{List, [], _∷_}
+use mathlib.Core.Logic.{inl, inr}
 use native.Mathlib.Omega.{arith}
 use Rattle.order.specs.Trees.{Tree}
 use Rattle.moves.specs.Places.{Dir, Place, Fits}
 use Rattle.moves.specs.Stores.{Answer, ok, no, Store, Sized, Reason, atEnd}
 use Rattle.moves.specs.Step.{step, stepBack, start}
-use Rattle.moves.specs.Runs.{Wish, forward, back, try, stayed, walk}
+use Rattle.moves.specs.Runs.{Walk, stay, on}
 use Rattle.moves.proofs.Cuts.{Wf}
 use Rattle.moves.proofs.Rows.{prog}
 use Rattle.moves.proofs.Undo.{back-undoes, start-fits, start-refused}
@@ -33,17 +33,10 @@ module _ (τ : Tree) (w : Wf τ (prog τ)) (d : Dir) (σ₀ : Store) (so : Sized
       let t : _≡_ {A = Place × Store} (p₁, σ₁) (p₂, σ₂) = cc in
       subst (λ k. Line τ (start τ d) σ₀ (k .0) (k .1)) t l
 
-  on-line : (ws : List Wish) (s : Place × Store) → Line τ (start τ d) σ₀ (s .0) (s .1)
-      → Line τ (start τ d) σ₀ (walk τ ws s .0) (walk τ ws s .1)
-  unfolding walk
-  on-line [] s l = l
-  on-line (v ∷ ws) s l = on-line ws (stayed (try τ v (s .0) (s .1)) s) (go′ v (try τ v (s .0) (s .1)) refl)
-    where
-      go′ : (v : Wish) (r : Answer (Place × Store)) → try τ v (s .0) (s .1) ≡ r → Line τ (start τ d) σ₀ (stayed r s .0) (stayed r s .1)
-      go′ forward (ok t) e = more l e
-      go′ back (ok t) e = back-line l e
-      go′ forward (no n) e = l
-      go′ back (no n) e = l
+  on-line : {p p′ : Place} {σ σ′ : Store} → Line τ (start τ d) σ₀ p σ → Walk τ p σ p′ σ′ → Line τ (start τ d) σ₀ p′ σ′
+  on-line l stay = l
+  on-line l (on (inl e) r) = on-line (more l e) r
+  on-line l (on (inr e) r) = on-line (back-line l e) r
 
   refused-line : {p : Place} {σ : Store} (n : Reason) → Line τ (start τ d) σ₀ p σ → stepBack τ p σ ≡ no n → (p ≡ start τ d) × (σ ≡ σ₀) × (n ≡ atEnd)
   refused-line n none e = (refl, refl, let r = start-refused τ w d σ₀ in cc)
@@ -51,9 +44,8 @@ module _ (τ : Tree) (w : Wf τ (prog τ)) (d : Dir) (σ₀ : Store) (so : Sized
       let f = line-fits l in ok-no (p₁, σ₁) n (back-undoes τ w p₁ (f .0) σ₁ (f .1) p σ h .2) e
 
   -- After any walk the place fits and the store has its size.
-  pub walk-fits : (ws : List Wish) → Fits τ (walk τ ws (start τ d, σ₀) .0) × Sized τ (walk τ ws (start τ d, σ₀) .1)
-  walk-fits ws = line-fits (on-line ws (start τ d, σ₀) none)
+  pub walk-fits : {p : Place} {σ : Store} → Walk τ (start τ d) σ₀ p σ → Fits τ p × Sized τ σ
+  walk-fits r = line-fits (on-line none r)
 
-  pub walk-back : (ws : List Wish) (n : Reason) → stepBack τ (walk τ ws (start τ d, σ₀) .0) (walk τ ws (start τ d, σ₀) .1) ≡ no n
-      → (walk τ ws (start τ d, σ₀) .0 ≡ start τ d) × (walk τ ws (start τ d, σ₀) .1 ≡ σ₀) × (n ≡ atEnd)
-  walk-back ws n e = refused-line n (on-line ws (start τ d, σ₀) none) e
+  pub walk-back : {p : Place} {σ : Store} (n : Reason) → Walk τ (start τ d) σ₀ p σ → stepBack τ p σ ≡ no n → (p ≡ start τ d) × (σ ≡ σ₀) × (n ≡ atEnd)
+  walk-back n r e = refused-line n (on-line none r) e
