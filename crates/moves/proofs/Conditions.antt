@@ -2,7 +2,7 @@
 use Prim.Native.Nat.{ℕ, _+_, _≤_}
 use mathlib.Core.Path.{_≡_, refl, ap, sym, _∙_, subst, subst⁻¹}
 use mathlib.Core.Bool.{Bool, true, false, not, cond}
-use mathlib.Core.List.{List, [], _∷_}
+use mathlib.Core.List.{List, [], _∷_, List·Memᴰ·head, List·Memᴰ·tail, List·Memᴰ·not-nil}
 use mathlib.Core.Logic.{_⊎_, inl, inr}
 use lib.ListN.{getD}
 use lib.Dec.{ltb}
@@ -10,14 +10,14 @@ use lib.IntN.{ℤ, pos, negsuc}
 use native.Mathlib.Omega.{arith}
 use borrow.Author.Tests.{ltb-true, ltb-false, eq-eqb, eqb-true}
 use Rattle.values.specs.Values.{isTrue}
-use Rattle.expr.specs.Tree.{Expr, Fault, byZero, badIndex as outside, Worth, value, stop, eval}
+use Rattle.expr.specs.Tree.{Expr, read, Fault, byZero, badIndex as outside, Worth, value, stop, eval}
 use Rattle.records.specs.Records.{Target, cell, entry, Record, names, begin, end, assign, if, else, fi, from, loop, until, call, uncall, skip}
 use Rattle.order.specs.Trees.{Tree}
 use Rattle.moves.specs.Edges.{Frame, inThen, inElse, inDo, inLoop, called}
-use Rattle.moves.specs.Places.{Dir, down, up, calls}
+use Rattle.moves.specs.Places.{Dir, down, up, going, calls}
 use Rattle.moves.specs.Stores.{Reason, atEnd, wrongValue, zeroDivisor, badIndex, tooDeep, Answer, ok, no, bind, Store, layout, reasonOf, answered, evaluated, holds, entryAt, cellOf, assigned}
 use Rattle.moves.specs.Step.{again}
-use Rattle.moves.specs.Reasons.{AtEnd, end-down, begin-up, TooDeep, at-call, at-uncall, Misses, Stops, Faults, in-if, in-fi, in-from, in-until, in-set, in-index, index, in-entry, Closes, fi-down, if-up, Opens, from-down, until-up, Wrong, then-false, else-true, outside-false, again-true, Meets}
+use Rattle.moves.specs.Reasons.{Misses, Stops, in-read, misses, Faults, in-only, in-index, in-entry, Meets, ends, then-false, else-true, outside-false, again-true, by-zero, no-entry, deep}
 use Rattle.moves.proofs.Acts.{Act, assigns, moves, chooses, closes, opens, tests, enters, returns, nothing, act, wanted}
 use Rattle.moves.proofs.Why.{ok-no, no-no, Refuses}
 use Rattle.moves.proofs.Stopping.{stopped, stops-eval}
@@ -81,14 +81,6 @@ module _ (τ : Tree) (σ : Store) where
       go′ false q h = let k : getD (τ .lengths) a 0 ≤ i = ltb-false _ _ q in (λ l. omega arith, no-no h)
   missed a (negsuc i) r h = (tt, no-no h)
 
-  hit : (a : ℕ) (v : ℤ) (c : ℕ) → entryAt τ a v ≡ ok c → Misses τ a v → ⊥
-  hit a (pos i) c h m = m (ltb-true _ _ (go′ (ltb i (getD (τ .lengths) a 0)) h))
-    where
-      go′ : (b : Bool) → cond b (ok (getD (layout τ .starts) a 0 + i)) (no badIndex) ≡ ok c → b ≡ true
-      go′ true h = refl
-      go′ false h = ok-no c badIndex (sym h)
-  hit a (negsuc i) c h m = ok-no c badIndex (sym h)
-
   misses-no : (a : ℕ) (v : ℤ) → Misses τ a v → entryAt τ a v ≡ no badIndex
   misses-no a (pos i) m = go′ (ltb i (getD (τ .lengths) a 0)) refl
     where
@@ -96,13 +88,6 @@ module _ (τ : Tree) (σ : Store) where
       go′ true q = absurd (m (ltb-true _ _ q))
       go′ false q = refl
   misses-no a (negsuc i) m = refl
-
-  hits-ok : (a : ℕ) (v : ℤ) → (Misses τ a v → ⊥) → (c : ℕ) × (entryAt τ a v ≡ ok c)
-  hits-ok a v f = go′ (entryAt τ a v) refl
-    where
-      go′ : (r : Answer ℕ) → entryAt τ a v ≡ r → (c : ℕ) × (entryAt τ a v ≡ ok c)
-      go′ (ok c) h = (c, h)
-      go′ (no r) h = absurd (f (missed a v r h .0))
 
   -- The expression comes last.
   last-no : (e : Expr) (k : ℤ → Store) (r : Reason) → bind (evaluated τ σ e) (λ v. ok (k v)) ≡ no r → Ends e r
@@ -113,28 +98,50 @@ module _ (τ : Tree) (σ : Store) where
       go′ (ok v) q h = ok-no (k v) r h
       go′ (no r′) q h = stops e r (q ∙ ap no (no-no h))
 
+  clash : {X : Type 0} {w : Worth} {v : ℤ} {f : Fault} → w ≡ value v → w ≡ stop f → X
+  clash p q = absurd (let z : _≡_ {A = ℕ} 0 1 = cc in let y : ⊥ = omega arith in y)
+
+  -- The entry of an array that a SET changes is there exactly where the array could be read.
+  entry-no : (a : ℕ) (i : Expr) (f : Fault) → Stops τ σ (read a i) f → cellOf τ σ (entry a i) ≡ no (reasonOf f)
+  unfolding cellOf bind
+  entry-no a i f (in-read q) = rw (evaluated-stop i f q)
+  entry-no a i f (misses {v = v} q m) = rw (evaluated-is i v q, misses-no a v m)
+
+  entry-ok : (a : ℕ) (i : Expr) (u : ℤ) → eval (layout τ) σ (read a i) ≡ value u → (c : ℕ) × (cellOf τ σ (entry a i) ≡ ok c)
+  unfolding cellOf bind
+  entry-ok a i u h = go′ (eval (layout τ) σ i) refl
+    where
+      given : (v : ℤ) → eval (layout τ) σ i ≡ value v → (c : Answer ℕ) → entryAt τ a v ≡ c → (c : ℕ) × (cellOf τ σ (entry a i) ≡ ok c)
+      given v q (ok c) k = (c, rw (evaluated-is i v q, k))
+      given v q (no r) k = clash h (stops-eval τ σ (misses q (missed a v r k .0)))
+
+      go′ : (w : Worth) → eval (layout τ) σ i ≡ w → (c : ℕ) × (cellOf τ σ (entry a i) ≡ ok c)
+      go′ (value v) q = given v q (entryAt τ a v) refl
+      go′ (stop f) q = clash h (stops-eval τ σ {e = read a i} (in-read (stopped τ σ i f q)))
+
   set-no : (o : ℕ) (x : Target) (e : Expr) (d : Dir) (r : Reason) → assigned τ o x e d σ ≡ no r → SetStops o x e r
   unfolding assigned cellOf bind
-  set-no o (cell x) e d r h = let s = last-no e _ r h in (s .0, in-set (s .1), s .2)
-  set-no o (entry a i) e d r h = go′ (eval (layout τ) σ i) refl
+  set-no o (cell x) e d r h =
+      let s = last-no e _ r h in
+      (s .0, in-only {o = o} {x = x} {e = e} (List·Memᴰ·tail (List·Memᴰ·tail (List·Memᴰ·tail (List·Memᴰ·tail (List·Memᴰ·head refl))))) (s .1), s .2)
+  set-no o (entry a i) e d r h = go′ (eval (layout τ) σ (read a i)) refl
     where
-      given : (v : ℤ) → eval (layout τ) σ i ≡ value v → (c : Answer ℕ) → entryAt τ a v ≡ c → SetStops o (entry a i) e r
-      given v q (ok c) k =
-          let s = last-no e _ r (rw (evaluated-is i v q, k) at h) in (s .0, in-entry q (hit a v c k) (s .1), s .2)
-      given v q (no r′) k =
-          let m = missed a v r′ k in let n : r′ ≡ r = no-no (rw (evaluated-is i v q, k) at h) in (outside, index q (m .0), m .1 ∙ n)
+      go′ : (w : Worth) → eval (layout τ) σ (read a i) ≡ w → SetStops o (entry a i) e r
+      go′ (value u) q = let s = last-no e _ r (rw (entry-ok a i u q .1) at h) in (s .0, in-entry refl q (s .1), s .2)
+      go′ (stop f) q = let s = stopped τ σ (read a i) f q in (f, in-index refl s, no-no (rw (entry-no a i f s) at h))
 
-      go′ : (w : Worth) → eval (layout τ) σ i ≡ w → SetStops o (entry a i) e r
-      go′ (value v) q = given v q (entryAt τ a v) refl
-      go′ (stop f) q = let s = stopped τ σ i f q in (f, in-index s, no-no (rw (evaluated-stop i f s) at h))
+  index-no : (o a : ℕ) (i e : Expr) (d : Dir) (f : Fault) → Stops τ σ (read a i) f → assigned τ o (entry a i) e d σ ≡ no (reasonOf f)
+  unfolding assigned bind
+  index-no o a i e d f s = rw (entry-no a i f s)
 
-  set-faults : (o : ℕ) (x : Target) (e : Expr) (d : Dir) (f : Fault) → Faults τ σ (assign o x e) f → assigned τ o x e d σ ≡ no (reasonOf f)
+  entry-last : (o a : ℕ) (i e : Expr) (d : Dir) (u : ℤ) (f : Fault) → eval (layout τ) σ (read a i) ≡ value u → Stops τ σ e f
+      → assigned τ o (entry a i) e d σ ≡ no (reasonOf f)
+  unfolding assigned bind
+  entry-last o a i e d u f q s = rw (entry-ok a i u q .1, evaluated-stop e f s)
+
+  cell-last : (o x : ℕ) (e : Expr) (d : Dir) (f : Fault) → Stops τ σ e f → assigned τ o (cell x) e d σ ≡ no (reasonOf f)
   unfolding assigned cellOf bind
-  set-faults o (cell x) e d f (in-set q) = rw (evaluated-stop e f q)
-  set-faults o (entry a i) e d f (in-index q) = rw (evaluated-stop i f q)
-  set-faults o (entry a i) e d f (index {v = v} q m) = rw (evaluated-is i v q, misses-no a v m)
-  set-faults o (entry a i) e d f (in-entry {v = v} q m k) =
-      let c = hits-ok a v m in rw (evaluated-is i v q, c .1, evaluated-stop e f k)
+  cell-last o x e d f s = rw (evaluated-stop e f s)
 
 -- ---- what the frames are where a record is met
 abbrev pub Branch : List Frame → Type 0
@@ -185,93 +192,133 @@ again-not h fs f = go′ (again h fs) refl
 module _ (τ : Tree) (σ : Store) (h : ℕ) (fs : List Frame) where
   -- ---- a refusal meets its reason's condition
   fault-meets : (ρ : Record) (d : Dir) (f : Fault) (r : Reason) → Faults τ σ ρ f → reasonOf f ≡ r → Meets τ σ h fs ρ d r
-  fault-meets ρ d byZero r k e = subst (Meets τ σ h fs ρ d) e k
-  fault-meets ρ d outside r k e = subst (Meets τ σ h fs ρ d) e k
+  fault-meets ρ d byZero r k e = subst (Meets τ σ h fs ρ d) e (by-zero k)
+  fault-meets ρ d outside r k e = subst (Meets τ σ h fs ρ d) e (no-entry k)
 
-  closes-meets : (ρ : Record) (d : Dir) (e : Expr) (r : Reason) → Closes ρ d e → ((f : Fault) → Stops τ σ e f → Faults τ σ ρ f) → Branch fs
+  closes-meets : (ρ : Record) (d : Dir) (e : Expr) (r : Reason) → ρ ≡ going d (fi e) (if e) → ((f : Fault) → Stops τ σ e f → Faults τ σ ρ f) → Branch fs
       → (holds τ σ e ≡ no r) ⊎ ((holds τ σ e ≡ ok (not (wanted fs))) × (r ≡ wrongValue)) → Meets τ σ h fs ρ d r
   closes-meets ρ d e r c k b (inl n) = let s = holds-no τ σ e r n in fault-meets ρ d (s .0) r (k (s .0) (s .1)) (s .2)
   closes-meets ρ d e r c k (l, F, inl q) (inr n) =
-      let s = holds-ok τ σ e (not (wanted fs)) (n .0) in subst⁻¹ (Meets τ σ h fs ρ d) (n .1) (then-false c q (s .1) (s .2 ∙ rw q))
+      let s = holds-ok τ σ e (not (wanted fs)) (n .0) in subst⁻¹ (Meets τ σ h fs ρ d) (n .1) (then-false e c q (s .0, s .1, s .2 ∙ rw q))
   closes-meets ρ d e r c k (l, F, inr q) (inr n) =
-      let s = holds-ok τ σ e (not (wanted fs)) (n .0) in subst⁻¹ (Meets τ σ h fs ρ d) (n .1) (else-true c q (s .1) (s .2 ∙ rw q))
+      let s = holds-ok τ σ e (not (wanted fs)) (n .0) in subst⁻¹ (Meets τ σ h fs ρ d) (n .1) (else-true e c q (s .0, s .1, s .2 ∙ rw q))
 
-  opens-meets : (ρ : Record) (d : Dir) (e : Expr) (r : Reason) → Opens ρ d e → ((f : Fault) → Stops τ σ e f → Faults τ σ ρ f)
+  opens-meets : (ρ : Record) (d : Dir) (e : Expr) (r : Reason) → ρ ≡ going d (from e) (until e) → ((f : Fault) → Stops τ σ e f → Faults τ σ ρ f)
       → (holds τ σ e ≡ no r) ⊎ ((holds τ σ e ≡ ok (again h fs)) × (r ≡ wrongValue)) → Meets τ σ h fs ρ d r
   opens-meets ρ d e r c k (inl n) = let s = holds-no τ σ e r n in fault-meets ρ d (s .0) r (k (s .0) (s .1)) (s .2)
   opens-meets ρ d e r c k (inr n) = subst⁻¹ (Meets τ σ h fs ρ d) (n .1) (go′ (again h fs) refl)
     where
-      go′ : (b : Bool) → again h fs ≡ b → Wrong τ σ h fs ρ d
-      go′ true q = let s = holds-ok τ σ e (again h fs) (n .0) in let F = again-is h fs q in again-true c (F .1) (s .1) (s .2 ∙ q)
+      go′ : (b : Bool) → again h fs ≡ b → Meets τ σ h fs ρ d wrongValue
+      go′ true q = let s = holds-ok τ σ e (again h fs) (n .0) in let F = again-is h fs q in again-true e c (F .1) (s .0, s .1, s .2 ∙ q)
       go′ false q =
           let s = holds-ok τ σ e (again h fs) (n .0) in
-          outside-false c (λ F i. let t = eq-eqb h h refl in let x : again h fs ≡ true = rw i t in let z : _≡_ {A = ℕ} 0 1 = cc in omega arith) (s .1) (s .2 ∙ q)
+          outside-false e c (λ F i. let t = eq-eqb h h refl in let x : again h fs ≡ true = rw i t in let z : _≡_ {A = ℕ} 0 1 = cc in omega arith) (s .0, s .1, s .2 ∙ q)
 
   plain-meets : (ρ : Record) (d : Dir) (e : Expr) (r : Reason) → ((f : Fault) → Stops τ σ e f → Faults τ σ ρ f) → holds τ σ e ≡ no r → Meets τ σ h fs ρ d r
   plain-meets ρ d e r k n = let s = holds-no τ σ e r n in fault-meets ρ d (s .0) r (k (s .0) (s .1)) (s .2)
+
+  in-if : (e : Expr) (f : Fault) → Stops τ σ e f → Faults τ σ (if e) f
+  in-if e f q = in-only {o = 0} {x = 0} {e = e} (List·Memᴰ·head refl) q
+
+  in-fi : (e : Expr) (f : Fault) → Stops τ σ e f → Faults τ σ (fi e) f
+  in-fi e f q = in-only {o = 0} {x = 0} {e = e} (List·Memᴰ·tail (List·Memᴰ·head refl)) q
+
+  in-from : (e : Expr) (f : Fault) → Stops τ σ e f → Faults τ σ (from e) f
+  in-from e f q = in-only {o = 0} {x = 0} {e = e} (List·Memᴰ·tail (List·Memᴰ·tail (List·Memᴰ·head refl))) q
+
+  in-until : (e : Expr) (f : Fault) → Stops τ σ e f → Faults τ σ (until e) f
+  in-until e f q = in-only {o = 0} {x = 0} {e = e} (List·Memᴰ·tail (List·Memᴰ·tail (List·Memᴰ·tail (List·Memᴰ·head refl)))) q
 
   pub refuses-meets : (ρ : Record) (d : Dir) (r : Reason) → Shape (act ρ h d) fs → calls fs ≤ 64 → Refuses τ (act ρ h d) d fs σ r → Meets τ σ h fs ρ d r
   unfolding act
   refuses-meets (names v ls) d r s n k = absurd k
   refuses-meets begin down r s n k = absurd k
-  refuses-meets begin up r s n k = subst⁻¹ (Meets τ σ h fs begin up) (k .1) (begin-up (ap calls (k .0)))
-  refuses-meets end down r s n k = subst⁻¹ (Meets τ σ h fs end down) (k .1) (end-down (ap calls (k .0)))
+  refuses-meets begin up r s n k = subst⁻¹ (Meets τ σ h fs begin up) (k .1) (ends refl (ap calls (k .0)))
+  refuses-meets end down r s n k = subst⁻¹ (Meets τ σ h fs end down) (k .1) (ends refl (ap calls (k .0)))
   refuses-meets end up r s n k = absurd k
   refuses-meets (assign o x e) d r s n k = let z = set-no τ σ o x e d r k in fault-meets (assign o x e) d (z .0) r (z .1) (z .2)
-  refuses-meets (if e) down r s n k = plain-meets (if e) down e r (λ f q. in-if q) k
-  refuses-meets (if e) up r s n k = closes-meets (if e) up e r if-up (λ f q. in-if q) s k
+  refuses-meets (if e) down r s n k = plain-meets (if e) down e r (in-if e) k
+  refuses-meets (if e) up r s n k = closes-meets (if e) up e r refl (in-if e) s k
   refuses-meets else d r s n k = absurd k
-  refuses-meets (fi e) down r s n k = closes-meets (fi e) down e r fi-down (λ f q. in-fi q) s k
-  refuses-meets (fi e) up r s n k = plain-meets (fi e) up e r (λ f q. in-fi q) k
-  refuses-meets (from e) down r s n k = opens-meets (from e) down e r from-down (λ f q. in-from q) k
-  refuses-meets (from e) up r s n k = plain-meets (from e) up e r (λ f q. in-from q) k
+  refuses-meets (fi e) down r s n k = closes-meets (fi e) down e r refl (in-fi e) s k
+  refuses-meets (fi e) up r s n k = plain-meets (fi e) up e r (in-fi e) k
+  refuses-meets (from e) down r s n k = opens-meets (from e) down e r refl (in-from e) k
+  refuses-meets (from e) up r s n k = plain-meets (from e) up e r (in-from e) k
   refuses-meets loop d r s n k = absurd k
-  refuses-meets (until e) down r s n k = plain-meets (until e) down e r (λ f q. in-until q) k
-  refuses-meets (until e) up r s n k = opens-meets (until e) up e r until-up (λ f q. in-until q) k
-  refuses-meets (call q) d r s n k = subst⁻¹ (Meets τ σ h fs (call q) d) (k .1) (at-call (let a = k .0 in omega arith))
-  refuses-meets (uncall q) d r s n k = subst⁻¹ (Meets τ σ h fs (uncall q) d) (k .1) (at-uncall (let a = k .0 in omega arith))
+  refuses-meets (until e) down r s n k = plain-meets (until e) down e r (in-until e) k
+  refuses-meets (until e) up r s n k = opens-meets (until e) up e r refl (in-until e) k
+  refuses-meets (call q) d r s n k = subst⁻¹ (Meets τ σ h fs (call q) d) (k .1) (deep {q = q} (inl refl) (let a = k .0 in omega arith))
+  refuses-meets (uncall q) d r s n k = subst⁻¹ (Meets τ σ h fs (uncall q) d) (k .1) (deep {q = q} (inr refl) (let a = k .0 in omega arith))
   refuses-meets skip d r s n k = absurd k
 
   -- ---- where a reason's condition holds, the step is refused for it
-  faults-refuse : (ρ : Record) (d : Dir) (f : Fault) → Faults τ σ ρ f → Refuses τ (act ρ h d) d fs σ (reasonOf f)
-  unfolding act
-  faults-refuse ρ down f (in-if {e = e} q) = holds-stop τ σ e f q
-  faults-refuse ρ up f (in-if {e = e} q) = inl (holds-stop τ σ e f q)
-  faults-refuse ρ down f (in-fi {e = e} q) = inl (holds-stop τ σ e f q)
-  faults-refuse ρ up f (in-fi {e = e} q) = holds-stop τ σ e f q
-  faults-refuse ρ down f (in-from {e = e} q) = inl (holds-stop τ σ e f q)
-  faults-refuse ρ up f (in-from {e = e} q) = holds-stop τ σ e f q
-  faults-refuse ρ down f (in-until {e = e} q) = holds-stop τ σ e f q
-  faults-refuse ρ up f (in-until {e = e} q) = inl (holds-stop τ σ e f q)
-  faults-refuse ρ d f (in-set {o = o} {x = x} {e = e} q) = set-faults τ σ o (cell x) e d f (in-set q)
-  faults-refuse ρ d f (in-index {o = o} {a = a} {i = i} {e = e} q) = set-faults τ σ o (entry a i) e d f (in-index q)
-  faults-refuse ρ d f (index {o = o} {a = a} {i = i} {e = e} q m) = set-faults τ σ o (entry a i) e d f (index q m)
-  faults-refuse ρ d f (in-entry {o = o} {a = a} {i = i} {e = e} q m k) = set-faults τ σ o (entry a i) e d f (in-entry q m k)
+  abbrev Refused : Dir → Reason → Record → Type 0
+  Refused d r ρ = Refuses τ (act ρ h d) d fs σ r
 
-  wrong-refuse : (ρ : Record) (d : Dir) → Wrong τ σ h fs ρ d → Refuses τ (act ρ h d) d fs σ wrongValue
+  if-stops : (d : Dir) (e : Expr) (f : Fault) → Stops τ σ e f → Refused d (reasonOf f) (if e)
   unfolding act
-  wrong-refuse ρ d (then-false {e = e} {v = v} fi-down q k b) = inr (holds-is τ σ e v k ∙ rw (q, b), refl)
-  wrong-refuse ρ d (then-false {e = e} {v = v} if-up q k b) = inr (holds-is τ σ e v k ∙ rw (q, b), refl)
-  wrong-refuse ρ d (else-true {e = e} {v = v} fi-down q k b) = inr (holds-is τ σ e v k ∙ rw (q, b), refl)
-  wrong-refuse ρ d (else-true {e = e} {v = v} if-up q k b) = inr (holds-is τ σ e v k ∙ rw (q, b), refl)
-  wrong-refuse ρ d (outside-false {e = e} {v = v} from-down q k b) = inr (holds-is τ σ e v k ∙ ap ok (b ∙ sym (again-not h fs q)), refl)
-  wrong-refuse ρ d (outside-false {e = e} {v = v} until-up q k b) = inr (holds-is τ σ e v k ∙ ap ok (b ∙ sym (again-not h fs q)), refl)
-  wrong-refuse ρ d (again-true {e = e} {v = v} from-down q k b) = inr (holds-is τ σ e v k ∙ ap ok (b ∙ sym (rw q (eq-eqb h h refl))), refl)
-  wrong-refuse ρ d (again-true {e = e} {v = v} until-up q k b) = inr (holds-is τ σ e v k ∙ ap ok (b ∙ sym (rw q (eq-eqb h h refl))), refl)
+  if-stops down e f q = holds-stop τ σ e f q
+  if-stops up e f q = inl (holds-stop τ σ e f q)
 
-  end-refuse : (ρ : Record) (d : Dir) → Shape (act ρ h d) fs → AtEnd fs ρ d → Refuses τ (act ρ h d) d fs σ atEnd
+  fi-stops : (d : Dir) (e : Expr) (f : Fault) → Stops τ σ e f → Refused d (reasonOf f) (fi e)
   unfolding act
-  end-refuse ρ d s (end-down k) = (top-none fs s k, refl)
-  end-refuse ρ d s (begin-up k) = (top-none fs s k, refl)
+  fi-stops down e f q = inl (holds-stop τ σ e f q)
+  fi-stops up e f q = holds-stop τ σ e f q
 
-  deep-refuse : (ρ : Record) (d : Dir) → TooDeep fs ρ → Refuses τ (act ρ h d) d fs σ tooDeep
+  from-stops : (d : Dir) (e : Expr) (f : Fault) → Stops τ σ e f → Refused d (reasonOf f) (from e)
   unfolding act
-  deep-refuse ρ d (at-call k) = (omega arith, refl)
-  deep-refuse ρ d (at-uncall k) = (omega arith, refl)
+  from-stops down e f q = inl (holds-stop τ σ e f q)
+  from-stops up e f q = holds-stop τ σ e f q
+
+  until-stops : (d : Dir) (e : Expr) (f : Fault) → Stops τ σ e f → Refused d (reasonOf f) (until e)
+  unfolding act
+  until-stops down e f q = holds-stop τ σ e f q
+  until-stops up e f q = inl (holds-stop τ σ e f q)
+
+  faults-refuse : (ρ : Record) (d : Dir) (f : Fault) → Faults τ σ ρ f → Refused d (reasonOf f) ρ
+  unfolding act
+  faults-refuse ρ d f (in-only {e = e} (List·Memᴰ·head i) q) = subst⁻¹ (Refused d (reasonOf f)) i (if-stops d e f q)
+  faults-refuse ρ d f (in-only {e = e} (List·Memᴰ·tail (List·Memᴰ·head i)) q) = subst⁻¹ (Refused d (reasonOf f)) i (fi-stops d e f q)
+  faults-refuse ρ d f (in-only {e = e} (List·Memᴰ·tail (List·Memᴰ·tail (List·Memᴰ·head i))) q) = subst⁻¹ (Refused d (reasonOf f)) i (from-stops d e f q)
+  faults-refuse ρ d f (in-only {e = e} (List·Memᴰ·tail (List·Memᴰ·tail (List·Memᴰ·tail (List·Memᴰ·head i)))) q) =
+      subst⁻¹ (Refused d (reasonOf f)) i (until-stops d e f q)
+  faults-refuse ρ d f (in-only {o = o} {x = x} {e = e} (List·Memᴰ·tail (List·Memᴰ·tail (List·Memᴰ·tail (List·Memᴰ·tail (List·Memᴰ·head i))))) q) =
+      subst⁻¹ (Refused d (reasonOf f)) i (cell-last τ σ o x e d f q)
+  faults-refuse ρ d f (in-only (List·Memᴰ·tail (List·Memᴰ·tail (List·Memᴰ·tail (List·Memᴰ·tail (List·Memᴰ·tail m))))) q) = absurd (List·Memᴰ·not-nil m)
+  faults-refuse ρ d f (in-index {o = o} {a = a} {i = i} {e = e} j q) = subst⁻¹ (Refused d (reasonOf f)) j (index-no τ σ o a i e d f q)
+  faults-refuse ρ d f (in-entry {o = o} {a = a} {i = i} {e = e} {v = v} j q k) = subst⁻¹ (Refused d (reasonOf f)) j (entry-last τ σ o a i e d v f q k)
+
+  close-refuse : (d : Dir) (e : Expr) → holds τ σ e ≡ ok (not (wanted fs)) → Refused d wrongValue (going d (fi e) (if e))
+  unfolding act
+  close-refuse down e k = inr (k, refl)
+  close-refuse up e k = inr (k, refl)
+
+  open-refuse : (d : Dir) (e : Expr) → holds τ σ e ≡ ok (again h fs) → Refused d wrongValue (going d (from e) (until e))
+  unfolding act
+  open-refuse down e k = inr (k, refl)
+  open-refuse up e k = inr (k, refl)
+
+  end-refuse : (d : Dir) → fs ≡ [] → Refused d atEnd (going d end begin)
+  unfolding act
+  end-refuse down e = (e, refl)
+  end-refuse up e = (e, refl)
+
+  top-end : (d : Dir) → Shape (act (going d end begin) h d) fs → Top fs
+  unfolding act
+  top-end down s = s
+  top-end up s = s
 
   pub meets-refuses : (ρ : Record) (d : Dir) (r : Reason) → Shape (act ρ h d) fs → Meets τ σ h fs ρ d r → Refuses τ (act ρ h d) d fs σ r
-  meets-refuses ρ d atEnd s k = end-refuse ρ d s k
-  meets-refuses ρ d wrongValue s k = wrong-refuse ρ d k
-  meets-refuses ρ d zeroDivisor s k = faults-refuse ρ d byZero k
-  meets-refuses ρ d badIndex s k = faults-refuse ρ d outside k
-  meets-refuses ρ d tooDeep s k = deep-refuse ρ d k
+  unfolding act
+  meets-refuses ρ d r s (ends i k) =
+      subst⁻¹ (Refused d atEnd) i (end-refuse d (top-none fs (top-end d (subst (λ ρ. Shape (act ρ h d) fs) i s)) k))
+  meets-refuses ρ d r s (then-false e i q (v, k, b)) = subst⁻¹ (Refused d wrongValue) i (close-refuse d e (holds-is τ σ e v k ∙ rw (q, b)))
+  meets-refuses ρ d r s (else-true e i q (v, k, b)) = subst⁻¹ (Refused d wrongValue) i (close-refuse d e (holds-is τ σ e v k ∙ rw (q, b)))
+  meets-refuses ρ d r s (outside-false e i q (v, k, b)) =
+      subst⁻¹ (Refused d wrongValue) i (open-refuse d e (holds-is τ σ e v k ∙ ap ok (b ∙ sym (again-not h fs q))))
+  meets-refuses ρ d r s (again-true e i q (v, k, b)) =
+      subst⁻¹ (Refused d wrongValue) i (open-refuse d e (holds-is τ σ e v k ∙ ap ok (b ∙ sym (rw q (eq-eqb h h refl)))))
+  meets-refuses ρ d r s (by-zero k) = faults-refuse ρ d byZero k
+  meets-refuses ρ d r s (no-entry k) = faults-refuse ρ d outside k
+  meets-refuses ρ d r s (deep (inl i) k) = subst⁻¹ (Refused d tooDeep) i (omega arith, refl)
+  meets-refuses ρ d r s (deep (inr i) k) = subst⁻¹ (Refused d tooDeep) i (omega arith, refl)
