@@ -6,13 +6,16 @@ use mathlib.Core.List.{List, [], _∷_, _++_, List·Memᴰ, List·Memᴰ·head, 
 use lib.Dec.{eqb}
 use native.Mathlib.Omega.{arith}
 use borrow.Author.Tests.{eq-eqb, eqb-true}
+use Rattle.records.specs.Records.{kind}
 use Rattle.order.specs.Trees.{Tree}
+use Rattle.moves.specs.Labels.{at}
 use Rattle.moves.specs.Edges.{Frame, inThen, inElse, inDo, inLoop, called, frameKind, frameLabel, Edge, edges}
-use Rattle.moves.specs.Places.{Dir, down, up, opp, near, far, find, top, head, calls}
+use Rattle.moves.specs.Places.{Dir, down, up, going, opp, near, far, find, top, head, calls, gate}
 use Rattle.moves.specs.Step.{inside}
-use Rattle.moves.proofs.Linked.{Con, Rec, nameL, beginL, endL, setL, skipL, ifL, elseL, fiL, fromL, loopL, untilL, callL, uncallL, Prog, onto, off}
-use Rattle.moves.proofs.Cuts.{CondOk, LoopOk, Local, Wf}
+use Rattle.moves.proofs.Linked.{Con, Rec, nameL, beginL, endL, setL, skipL, ifL, elseL, fiL, fromL, loopL, untilL, callL, uncallL, Prog, forget, onto, off, gateL}
+use Rattle.moves.proofs.Cuts.{CondOk, LoopOk, ProcOk, Local, Wf}
 use Rattle.moves.proofs.Rows.{prog}
+use Rattle.moves.proofs.Links.{at-is}
 use Rattle.moves.proofs.Gaps.{tip, gapAt, on-edge, edge-on}
 
 -- ---- frames are told by their kinds and labels
@@ -264,3 +267,82 @@ module _ (τ : Tree) (w : Wf τ (prog τ)) where
       let i : suc (pred (c .m)) ≡ c .m = omega arith in
       let t : tip P (pred (c .m)) down ≡ c .r = rw (i, k .at-m) in
       rw t at (entered q (pred (c .m)) up (c .l) lo hi (λ g e. until-up τ P g (c .r) c k refl (subst (Lower P g) (e ∙ t) (lower-at τ P g _ refl (w .here (suc g))))))
+
+  -- BEGIN and END, of which every procedure has one.
+  begin-of : (ρ : Rec) → kind (forget ρ) ≡ 2 → (q : ℕ) × (ρ ≡ beginL q)
+  unfolding kind
+  begin-of (nameL v ls) e = absurd (let z : ⊥ = omega arith in z)
+  begin-of (beginL q) e = (q, refl)
+  begin-of (endL q) e = absurd (let z : ⊥ = omega arith in z)
+  begin-of (setL o t ε) e = absurd (let z : ⊥ = omega arith in z)
+  begin-of skipL e = absurd (let z : ⊥ = omega arith in z)
+  begin-of (ifL c) e = absurd (let z : ⊥ = omega arith in z)
+  begin-of (elseL c) e = absurd (let z : ⊥ = omega arith in z)
+  begin-of (fiL c) e = absurd (let z : ⊥ = omega arith in z)
+  begin-of (fromL c) e = absurd (let z : ⊥ = omega arith in z)
+  begin-of (loopL c) e = absurd (let z : ⊥ = omega arith in z)
+  begin-of (untilL c) e = absurd (let z : ⊥ = omega arith in z)
+  begin-of (callL q) e = absurd (let z : ⊥ = omega arith in z)
+  begin-of (uncallL q) e = absurd (let z : ⊥ = omega arith in z)
+
+  end-of : (ρ : Rec) → kind (forget ρ) ≡ 3 → (q : ℕ) × (ρ ≡ endL q)
+  unfolding kind
+  end-of (nameL v ls) e = absurd (let z : ⊥ = omega arith in z)
+  end-of (beginL q) e = absurd (let z : ⊥ = omega arith in z)
+  end-of (endL q) e = (q, refl)
+  end-of (setL o t ε) e = absurd (let z : ⊥ = omega arith in z)
+  end-of skipL e = absurd (let z : ⊥ = omega arith in z)
+  end-of (ifL c) e = absurd (let z : ⊥ = omega arith in z)
+  end-of (elseL c) e = absurd (let z : ⊥ = omega arith in z)
+  end-of (fiL c) e = absurd (let z : ⊥ = omega arith in z)
+  end-of (fromL c) e = absurd (let z : ⊥ = omega arith in z)
+  end-of (loopL c) e = absurd (let z : ⊥ = omega arith in z)
+  end-of (untilL c) e = absurd (let z : ⊥ = omega arith in z)
+  end-of (callL q) e = absurd (let z : ⊥ = omega arith in z)
+  end-of (uncallL q) e = absurd (let z : ⊥ = omega arith in z)
+
+  first-only : (q g x : ℕ) → P .first q ≤ g → g < P .last q → Upper P g x → kind (forget (P .at x)) ≡ 2 → x ≡ P .first q
+  first-only q g x lo hi (plain h) k =
+      let b = begin-of (P .at x) k in let l = rw (b .1) at (w .here x) in
+      l .0 ∙ ap (P .first) (sym (l .2 q (omega arith) (omega arith)))
+  first-only q g x lo hi (of-else c o i j) k = let b = begin-of (P .at x) k in let e = b .1 in cc
+  first-only q g x lo hi (of-loop c o i j) k = let b = begin-of (P .at x) k in let e = b .1 in cc
+
+  last-only : (q g x : ℕ) → P .first q ≤ g → g < P .last q → Lower P g x → kind (forget (P .at x)) ≡ 3 → x ≡ P .last q
+  last-only q g x lo hi (plain h p) k =
+      let b = end-of (P .at x) k in let l = rw (b .1) at (w .here x) in
+      l .0 ∙ ap (P .last) (sym (l .2 q (omega arith) (omega arith)))
+  last-only q g x lo hi (of-else c o i j) k = let b = end-of (P .at x) k in let e = b .1 in cc
+  last-only q g x lo hi (of-loop c o i j) k = let b = end-of (P .at x) k in let e = b .1 in cc
+  last-only q g x lo hi (of-until c o i j) k = let b = end-of (P .at x) k in let e = b .1 in cc
+
+  -- The gap next to a procedure's gate, and the labels of its other gaps.
+  gate-with : (q g : ℕ) (d : Dir) → P .first q ≤ g → g < P .last q → tip P g (opp d) ≡ gateL P q d → kind (at τ (gateL P q d)) ≡ going d 2 3
+      → ((g′ : ℕ) → P .first q ≤ g′ → g′ < P .last q → kind (forget (P .at (tip P g′ (opp d)))) ≡ going d 2 3 → tip P g′ (opp d) ≡ gateL P q d)
+      → gate τ q d ≡ gateL P q d
+  gate-with q g d lo hi t k u =
+      find-is (λ e. eqb (e .proc) q && eqb (kind (at τ (near e d))) (going d 2 3)) (λ e. near e d) (edges τ) (gapAt P q g) (edge-on τ q g lo hi) here only ∙ at-gate
+    where
+      at-gate : near (gapAt P q g) d ≡ gateL P q d
+      at-gate = near-gap P q g d ∙ t
+
+      here : (eqb q q && eqb (kind (at τ (near (gapAt P q g) d))) (going d 2 3)) ≡ true
+      here = rw (eq-eqb q q refl) (eq-eqb _ _ (ap (λ x. kind (at τ x)) at-gate ∙ k))
+
+      only : (e : Edge) → List·Memᴰ e (edges τ) → (eqb (e .proc) q && eqb (kind (at τ (near e d))) (going d 2 3)) ≡ true → near e d ≡ near (gapAt P q g) d
+      only e m h =
+          let r = on-edge τ e m in let y = and-true _ _ h in
+          let p : e .proc ≡ q = eqb-true _ _ (y .0) in
+          let n : near e d ≡ tip P (r .g) (opp d) = ap (λ x. near x d) (r .is) ∙ near-gap P (e .proc) (r .g) d in
+          let f = ap (P .first) p in let l = ap (P .last) p in
+          n ∙ (u (r .g) (omega (arith, r .lo)) (omega (arith, r .hi)) (ap kind (sym (at-is τ _)) ∙ (ap (λ x. kind (at τ x)) (sym n) ∙ eqb-true _ _ (y .1))) ∙ sym at-gate)
+
+  pub gate-is : (q : ℕ) (d : Dir) → ProcOk P q → gate τ q d ≡ gateL P q d
+  unfolding kind
+  gate-is q down k =
+      gate-with q (P .first q) down (omega arith) (k .lt) (rw (k .at-first)) (rw (at-is τ (P .first q), k .at-first))
+      (λ g lo hi h. first-only q g _ lo hi (upper-at τ P g _ refl (w .here g)) h)
+  gate-is q up k =
+      let i : suc (pred (P .last q)) ≡ P .last q = let l = k .lt in omega arith in
+      gate-with q (pred (P .last q)) up (let l = k .lt in omega arith) (omega arith) (rw (i, k .at-last)) (rw (at-is τ (P .last q), k .at-last))
+      (λ g lo hi h. last-only q g _ lo hi (lower-at τ P g _ refl (w .here (suc g))) h)

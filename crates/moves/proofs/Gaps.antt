@@ -6,13 +6,13 @@ use mathlib.Core.Logic.{⊎-elim}
 use native.Mathlib.Omega.{arith}
 use native.Mathlib.Nat.{suc-pred-eq-of-pos}
 use Rattle.order.specs.Trees.{Stmt, setS, skipS, callS, uncallS, ifS, fromS, Block, one, _then_, Tree, procedures}
-use Rattle.moves.specs.Labels.{sizeS, sizeB, exit, beginFrom, endFrom}
+use Rattle.moves.specs.Labels.{sizeS, sizeB, exit}
 use Rattle.moves.specs.Edges.{Frame, inThen, inElse, inDo, inLoop, Edge, edge, edgesS, edgesB, edgesP, edges}
 use Rattle.moves.specs.Places.{Dir, down, up}
 use Rattle.moves.specs.Stores.{holds}
 use Rattle.moves.proofs.Linked.{Prog, onto, off, side}
 use Rattle.moves.proofs.Cuts.{met}
-use Rattle.moves.proofs.Rows.{rowsS, rowsB, lengthS, lengthB, Holds, holds-left, holds-right, holds-around, entry-is, endS, rowsP, prog}
+use Rattle.moves.proofs.Rows.{beginFrom, endFrom, rowsS, rowsB, lengthS, lengthB, Holds, holds-left, holds-right, holds-around, entry-is, endS, rowsP, prog}
 use Rattle.moves.proofs.Locals.{either}
 use Rattle.moves.proofs.Whole.{Suffix, rest, suffix}
 use mathlib.Core.List.{List·Memᴰ, List·Memᴰ·head, List·Memᴰ·tail, List·Memᴰ·not-nil, List·Memᴰ·append-cases, Memᴰ·append-left, Memᴰ·append-right}

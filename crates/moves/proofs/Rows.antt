@@ -6,7 +6,7 @@ use lib.ListN.{length, getD, length-append}
 use native.Mathlib.Omega.{arith}
 use Rattle.expr.specs.Tree.{Expr}
 use Rattle.order.specs.Trees.{Stmt, setS, skipS, callS, uncallS, ifS, fromS, Block, one, _then_, Tree, procedures}
-use Rattle.moves.specs.Labels.{sizeS, sizeB, beginOf, endOf}
+use Rattle.moves.specs.Labels.{sizeS, sizeB}
 use Rattle.moves.specs.Edges.{Frame, inThen, inElse, inDo, inLoop}
 use Rattle.moves.specs.Places.{calls}
 use Rattle.moves.proofs.Linked.{Con, Rec, nameL, beginL, endL, setL, skipL, ifL, elseL, fiL, fromL, loopL, untilL, callL, uncallL, Prog, onto}
@@ -152,6 +152,23 @@ noRow = row (nameL 0 []) []
 
 unfoldable pub rowsOf : Tree → List Row
 rowsOf τ = row (nameL (τ .scalars) (τ .lengths)) [] ∷ rowsP (procedures τ) 0 1
+
+-- The labels of the BEGIN and of the END of procedure q, of the procedures bs that stand from label n on.
+unfoldable pub beginFrom : List Block → (n q : ℕ) → ℕ
+beginFrom [] n q = 1
+beginFrom (b ∷ bs) n zero = n
+beginFrom (b ∷ bs) n (suc q) = beginFrom bs (suc (suc n + sizeB b)) q
+
+unfoldable pub endFrom : List Block → (n q : ℕ) → ℕ
+endFrom [] n q = 0
+endFrom (b ∷ bs) n zero = suc n + sizeB b
+endFrom (b ∷ bs) n (suc q) = endFrom bs (suc (suc n + sizeB b)) q
+
+abbrev pub beginOf : Tree → ℕ → ℕ
+beginOf t q = beginFrom (procedures t) 1 q
+
+abbrev pub endOf : Tree → ℕ → ℕ
+endOf t q = endFrom (procedures t) 1 q
 
 unfoldable pub prog : Tree → Prog
 prog τ = record { at = λ x. (getD (rowsOf τ) x noRow) .rec; encl = λ x. (getD (rowsOf τ) x noRow) .after; first = beginOf τ; last = endOf τ }

@@ -22,7 +22,7 @@ use Rattle.moves.proofs.Rows.{prog}
 use Rattle.moves.proofs.Links.{at-is}
 use Rattle.moves.proofs.Acts.{act, enters, perform, step-is}
 use Rattle.moves.proofs.Gaps.{tip}
-use Rattle.moves.proofs.Follow.{ahead, ahead-gap}
+use Rattle.moves.proofs.Follow.{ahead, ahead-gap, gate-is}
 
 abbrev pub stack : Prog → List ℕ → List Frame
 stack P [] = []
@@ -192,11 +192,6 @@ module _ (τ : Tree) (w : Wf τ (prog τ)) where
       ap (λ p. ok (p, σ)) (rw (r, ac) (arrive c c d′ cs′ _ (fit τ P q′ cs′ o (omega arith) c d′ lo hi) (omega arith) (rw ac (side-uncall q c (opp d′)))
       (ap (λ k. k ++ stack P cs′) (encl-gap c d′ (at-uncall c q ac)))))
 
-  pub gate-is : (q : ℕ) (d : Dir) → gate τ q d ≡ gateL P q d
-  unfolding prog
-  gate-is q down = refl
-  gate-is q up = refl
-
   gate-side : (q : ℕ) (d : Dir) → ProcOk P q → side (P .at (gateL P q d)) (gateL P q d) (opp d) ≡ gateL P q d
   gate-side q down k = rw (k .at-first)
   gate-side q up k = rw (k .at-last)
@@ -208,7 +203,7 @@ module _ (τ : Tree) (w : Wf τ (prog τ)) where
   -- A procedure is entered.
   pub enter-is : (q : ℕ) (d : Dir) → ProcOk P q → (cs : List ℕ) → Sits P (leave (gateL P q d) d cs) → after τ (gate τ q d) d (stack P cs) ≡ view P (leave (gateL P q d) d cs)
   enter-is q d k cs F =
-      ap (λ x. after τ x d (stack P cs)) (gate-is q d)
+      ap (λ x. after τ x d (stack P cs)) (gate-is τ w q d k)
       ∙ arrive (gateL P q d) (gateL P q d) d cs _ F (gate-pos τ P q k d) (gate-side q d k) (rw (gate-encl q d k))
 
   pub enter-sim : (g : ℕ) (d : Dir) (cs : List ℕ) (σ : Store) (q : ℕ) (d′ : Dir) → ProcOk P q → SimpleOk P (met g d)

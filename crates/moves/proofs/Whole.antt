@@ -5,11 +5,11 @@ use mathlib.Core.List.{List, [], _∷_}
 use lib.ListN.{length, getD, length-append, List·getD-eq-default}
 use native.Mathlib.Omega.{arith}
 use Rattle.order.specs.Trees.{Block, Tree, procedures}
-use Rattle.moves.specs.Labels.{sizeB, beginFrom, endFrom, beginOf, endOf}
+use Rattle.moves.specs.Labels.{sizeB}
 use Rattle.moves.specs.Stores.{holds}
 use Rattle.moves.proofs.Linked.{nameL, beginL, endL, Prog}
 use Rattle.moves.proofs.Cuts.{Undoes, ProcOk, Local, Wf}
-use Rattle.moves.proofs.Rows.{Row, row, rowsB, lengthB, Holds, holds-left, holds-right, endB, rowsP, noRow, rowsOf, prog, plain-getD, plainP}
+use Rattle.moves.proofs.Rows.{beginFrom, endFrom, beginOf, endOf, Row, row, rowsB, lengthB, Holds, holds-left, holds-right, endB, rowsP, noRow, rowsOf, prog, plain-getD, plainP}
 use Rattle.moves.proofs.Locals.{FineB, either, Ctx, put, localB}
 
 pub holds-from : (P : Prog) (n : ℕ) (R : List Row) → ((i : ℕ) → P .at (n + i) ≡ (getD R i noRow) .rec) → ((i : ℕ) → P .encl (n + i) ≡ (getD R i noRow) .after)

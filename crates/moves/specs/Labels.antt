@@ -1,4 +1,4 @@
--- Document 01, 'Labels, places, moves': which record has which label, and which records belong together.
+-- Document 01, 'Labels, places, moves': which record has which label.
 use Prim.Native.Nat.{ℕ, zero, suc, _+_, pred}
 use mathlib.Core.List.{List, [], _∷_}
 use lib.ListN.{getD}
@@ -34,20 +34,3 @@ middle n s = suc n + sizeB s
 
 abbrev pub ending : ℕ → Block → Block → ℕ
 ending n s t = suc (middle n s) + sizeB t
-
--- The labels of the BEGIN and of the END of procedure q, of the procedures bs that stand from label n on.
-unfoldable pub beginFrom : List Block → (n q : ℕ) → ℕ
-beginFrom [] n q = 1
-beginFrom (b ∷ bs) n zero = n
-beginFrom (b ∷ bs) n (suc q) = beginFrom bs (suc (suc n + sizeB b)) q
-
-unfoldable pub endFrom : List Block → (n q : ℕ) → ℕ
-endFrom [] n q = 0
-endFrom (b ∷ bs) n zero = suc n + sizeB b
-endFrom (b ∷ bs) n (suc q) = endFrom bs (suc (suc n + sizeB b)) q
-
-abbrev pub beginOf : Tree → ℕ → ℕ
-beginOf t q = beginFrom (procedures t) 1 q
-
-abbrev pub endOf : Tree → ℕ → ℕ
-endOf t q = endFrom (procedures t) 1 q

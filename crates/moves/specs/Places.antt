@@ -3,13 +3,13 @@ use Prim.Native.Nat.{ℕ, suc, _≤_}
 use mathlib.Core.List.{List, [], _∷_, _++_, List·Memᴰ}
 use mathlib.Core.Logic.{_⊎_}
 use mathlib.Core.Path.{_≡_}
-use mathlib.Core.Bool.{Bool, cond}
+use mathlib.Core.Bool.{Bool, cond, _&&_}
 use lib.ListN.{getD}
 use lib.Dec.{eqb}
 pub use Rattle.place.specs.Places.{Dir, down, up, going, opp, Place, turn}
-use Rattle.records.specs.Records.{call, uncall}
+use Rattle.records.specs.Records.{call, uncall, kind}
 use Rattle.order.specs.Trees.{Tree}
-use Rattle.moves.specs.Labels.{at, beginOf, endOf}
+use Rattle.moves.specs.Labels.{at}
 use Rattle.moves.specs.Edges.{Frame, called, frameKind, frameLabel, Edge, edge, edges}
 
 -- Where an edge comes from and where it goes to, in a direction: "Upward edges are these reversed."
@@ -59,6 +59,6 @@ pub record Fits (t : Tree) (p : Place) : Type 0 where
   -- "and at most 64 frames are calls"
   pub few : calls (p .frames) ≤ 64
 
--- The label that a procedure is entered by in a direction, and left by in the opposite one.
+-- The label that a procedure is entered by in a direction, and left by in the opposite one: its BEGIN, its END.
 abbrev pub gate : Tree → ℕ → Dir → ℕ
-gate t q d = going d (beginOf t q) (endOf t q)
+gate t q d = near (find (λ e. eqb (e .proc) q && eqb (kind (at t (near e d))) (going d 2 3)) (edges t)) d
