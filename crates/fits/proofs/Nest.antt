@@ -9,11 +9,11 @@ use lib.ListN.{length, List·getD-eq-default}
 use native.Mathlib.Omega.{arith}
 use Rattle.records.specs.Records.{names, kind}
 use Rattle.order.specs.Trees.{Block, Tree, procedures, recordsOf}
-use Rattle.moves.specs.Labels.{at, sizeB, beginFrom, endFrom}
+use Rattle.moves.specs.Labels.{at, sizeB}
 use Rattle.moves.specs.Edges.{Frame, inThen, inElse, inDo, inLoop, frameKind, frameLabel}
 use Rattle.moves.proofs.Linked.{Con, Rec, nameL, beginL, endL, setL, skipL, ifL, elseL, fiL, fromL, loopL, untilL, callL, uncallL, Prog, forget}
 use Rattle.moves.proofs.Cuts.{Span, SimpleOk, ProcOk, Local, Wf}
-use Rattle.moves.proofs.Rows.{noRow, rowsOf, prog}
+use Rattle.moves.proofs.Rows.{beginFrom, endFrom, noRow, rowsOf, prog}
 use Rattle.moves.proofs.Links.{at-is}
 use Rattle.moves.proofs.Locals.{either}
 use Rattle.moves.proofs.Whole.{pastOf, lengthP, Suffix, rest, proc, suffix}

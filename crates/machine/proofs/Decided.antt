@@ -1,7 +1,7 @@
 -- The decision does what the step on cuts says: one case for each kind of record and direction.
 use Prim.Native.Nat.{ℕ, zero, suc, _+_, _-_, _≤_, _<_, pred}
 use mathlib.Core.Path.{_≡_, refl, sym, ap, ap₂, _∙_, subst}
-use mathlib.Core.Bool.{Bool, true, false, cond, not, _&&_}
+use mathlib.Core.Bool.{Bool, true, false, cond, not, _&&_, Bool·beq as same}
 use mathlib.Core.List.{List, [], _∷_, _++_}
 use lib.ListN.{length, getD}
 use lib.Dec.{ltb, leb, eqb}
@@ -21,14 +21,14 @@ use Rattle.program.specs.Says.{Accepts, thereIn}
 use Rattle.records.specs.Faults.{word}
 use Rattle.records.specs.Reading.{recordAs}
 use Rattle.records.specs.Walk.{offsets}
-use Rattle.moves.specs.Labels.{at, head}
+use Rattle.moves.specs.Labels.{at}
 use Rattle.moves.specs.Stores.{Reason, wrongValue, atEnd, tooDeep, number, Answer, ok, no, bind, Store, layout, answered, evaluated, holds, assigned}
-use Rattle.moves.specs.Step.{again, same, must}
+use Rattle.moves.specs.Step.{again, must}
 use Rattle.moves.proofs.Linked.{Con, Rec, nameL, beginL, endL, setL, skipL, ifL, elseL, fiL, fromL, loopL, untilL, callL, uncallL, Prog, forget, headOf, side, gateL, resume}
 use Rattle.moves.proofs.Cuts.{Cut, met, gap, leave, hub, arm, assign′, pass′, enter′, return′, port, through, cstep, Span, SimpleOk, ProcOk, Local, Wf, Good, in-main, by-call, by-uncall, Sits}
 use Rattle.moves.proofs.Loop.{fit, fit1, fit3, fit-gate, gate-pos, lo-met, hi-met, pos1, not-begin, not-end}
 use Rattle.moves.proofs.Rows.{prog}
-use Rattle.moves.proofs.Links.{at-is, head-is}
+use Rattle.moves.proofs.Links.{at-is}
 use Rattle.moves.proofs.Gaps.{tip}
 use Rattle.moves.proofs.View.{stack, view, fresh-stack, side-call, side-uncall, encl-left}
 use Rattle.moves.proofs.Accepted.{accepted-wf}
@@ -61,7 +61,7 @@ module _ {f : List ℕ} {t : Tree} (A : Accepts f t) {tab : List ℕ} (T : Table
     kind-at = near A T 1024 b (omega arith) h ∙ T .kinds b h ∙ ap kind (at-is t b ∙ ap forget e)
 
     pub head-at : lookIn tab (2048 + b) ≡ headOf ρ
-    head-at = near A T 2048 b (omega arith) h ∙ T .heads b h ∙ head-is t b ∙ ap headOf e
+    head-at = near A T 2048 b (omega arith) h ∙ T .heads b h ∙ ap headOf e
 
     pub record-is : recordAs (kind (forget ρ)) f (lookIn tab b) ≡ forget ρ
     record-is = subst (λ r. recordAs (kind r) f (lookIn tab b) ≡ r) (at-is t b ∙ ap forget e) (ap (recordAs (kind (at t b)) f) (offset-is A T b h) ∙ read-at A b h)

@@ -1,7 +1,7 @@
 -- The decision does what the step on cuts says, for the records that test, assign and pass: one case for each kind and direction.
 use Prim.Native.Nat.{ℕ, zero, suc, _+_, _≤_, _<_, pred}
 use mathlib.Core.Path.{_≡_, refl, sym, ap, ap₂, _∙_, subst}
-use mathlib.Core.Bool.{Bool, true, false, cond}
+use mathlib.Core.Bool.{Bool, true, false, cond, Bool·beq as same}
 use mathlib.Core.List.{List, [], _∷_, _++_}
 use lib.ListN.{length}
 use native.Mathlib.Omega.{arith}
@@ -15,7 +15,7 @@ use Rattle.order.specs.Trees.{Tree, recordsOf}
 use Rattle.program.specs.Says.{Accepts}
 use Rattle.records.specs.Reading.{recordAs}
 use Rattle.moves.specs.Stores.{Reason, atEnd, wrongValue, zeroDivisor, badIndex, tooDeep, number, Answer, ok, no, bind, Store, holds, assigned}
-use Rattle.moves.specs.Step.{again, same, must}
+use Rattle.moves.specs.Step.{again, must}
 use Rattle.moves.proofs.Linked.{Con, Rec, setL, skipL, ifL, elseL, fiL, fromL, loopL, untilL, Prog, forget, side}
 use Rattle.moves.proofs.Cuts.{Cut, met, gap, leave, hub, arm, assign′, pass′, port, through, SimpleOk, CondOk, LoopOk, Span, Local, Sits}
 use Rattle.moves.proofs.Loop.{fit1, fit3, lo-met, hi-met, pos1}

@@ -5,7 +5,7 @@
 --     run-then, run-back-then       n steps made and then m are n + m
 use Prim.Native.Nat.{ℕ, zero, suc, _+_, _<_}
 use mathlib.Core.Path.{_≡_, refl, sym, ap, ap₂, _∙_, subst}
-use mathlib.Core.List.{List, [], _∷_}
+use mathlib.Core.List.{List}
 use mathlib.Core.Logic.{_↔_, _⊎_, inl, inr}
 use mathlib.Core.Bool.{cond}
 use lib.ListN.{length, getD}
@@ -24,7 +24,7 @@ use Rattle.moves.specs.Places.{Fits}
 use Rattle.moves.specs.Stores.{Reason, atEnd, wrongValue, zeroDivisor, badIndex, tooDeep, number, Answer, ok, no, Store, Sized}
 use Rattle.moves.specs.Step.{step, stepBack, start}
 use Rattle.moves.specs.Reasons.{Condition}
-use Rattle.moves.specs.Runs.{Wish, forward, back, try, stayed, walk, Stop, made, because, runBy, run, runBack}
+use Rattle.moves.specs.Runs.{Walk, stay, on, Stop, made, because, runBy, run, runBack}
 use Rattle.moves.specs.Runs as runs
 use Rattle.moves.proofs.Runs.{Steps, none, then, IsRun, all, fewer}
 use Rattle.moves.proofs.Runs as moving
@@ -77,6 +77,9 @@ module _ {f : List ℕ} (B : AllBytes f) {q : Held} {σ : Store} {t : Tree} {p :
       (λ e. y .0 (x .0 e), λ c. x .1 (y .1 c))
 
 -- ---- walks
+pub data Wish : Type 0 where
+  forward back : Wish
+
 abbrev pub wished : Wish → Move
 wished forward t p σ = step t p σ
 wished back t p σ = stepBack t p σ
@@ -86,43 +89,39 @@ pub data Walked (f : List ℕ) : Held → Store → Held → Store → Type 0 wh
   here : {q : Held} {σ : Store} → Walked f q σ q σ
   onward : (w : Wish) {a : Told} {q q₁ q′ : Held} {σ σ₁ σ′ : Store} → StepSays (wished w) f q σ a q₁ σ₁ → Walked f q₁ σ₁ q′ σ′ → Walked f q σ q′ σ′
 
-tried : (t : Tree) (w : Wish) (p : Place) (σ : Store) → try t w p σ ≡ wished w t p σ
-tried t forward p σ = refl
-tried t back p σ = refl
-
 module _ {f : List ℕ} (B : AllBytes f) {t : Tree} where
   keeps : Accepts f t → (w : Wish) (p : Place) → Fits t p → (σ : Store) → Sized t σ → (p′ : Place) (σ′ : Store) → wished w t p σ ≡ ok (p′, σ′) → Fits t p′ × Sized t σ′
   keeps A forward p h σ so p′ σ′ e = let u = theorems.back-undoes-forward A p h σ so p′ σ′ e in (u .0, u .1)
   keeps A back p h σ so p′ σ′ e = let u = theorems.forward-undoes-back A p h σ so p′ σ′ e in (u .0, u .1)
 
+  -- A step that arrives is one of a walk.
+  arrives : (w : Wish) {p p₁ p′ : Place} {σ σ₁ σ′ : Store} → wished w t p σ ≡ ok (p₁, σ₁) → Walk t p₁ σ₁ p′ σ′ → Walk t p σ p′ σ′
+  arrives forward e r = on (inl e) r
+  arrives back e r = on (inr e) r
+
+  -- What a step leads to: a walk of no steps or one.
   after : (w : Wish) {q q₁ : Held} {σ σ₁ : Store} {p : Place} {a : Told} → Ready f q σ t p → Range σ → StepSays (wished w) f q σ a q₁ σ₁
-      → (p₁ : Place) × Ready f q₁ σ₁ t p₁ × Range σ₁ × (stayed (try t w p σ) (p, σ) ≡ (p₁, σ₁))
+      → (p₁ : Place) × Ready f q₁ σ₁ t p₁ × Range σ₁ × ((p′ : Place) (σ′ : Store) → Walk t p₁ σ₁ p′ σ′ → Walk t p σ p′ σ′)
   after w R g (refused b e₁ e₂ e₃) = no-way (before-ready B b R)
-  after w {q} {q₁} {σ} {σ₁} {p} R g (stopped {r = r} R′ m e₁ e₂ e₃) =
+  after w {q} {q₁} {σ} {σ₁} {p} R g (stopped {r = r} R′ m e₁ e₂ e₃) = (
+    p,
+    record { accepts = R .accepts; sized = ap length e₃ ∙ R .sized; holds = e₂ ∙ R .holds; fits = R .fits },
+    subst Range (sym e₃) g,
+    λ p′ σ′. subst (λ τ. Walk t p τ p′ σ′) e₃,
+  )
+  after w {q} {q₁} {σ} {σ₁} {p} R g (arrived {p′ = p₁} {τ = τ} R′ m e₁ e₂ e₃) =
       let z = ready-one B R R′ in
-      let e : try t w p σ ≡ no r = tried t w p σ ∙ (ap₂ (λ t p. wished w t p σ) (z .0) (z .1) ∙ m) in (
-        p,
-        record { accepts = R .accepts; sized = ap length e₃ ∙ R .sized; holds = e₂ ∙ R .holds; fits = R .fits },
-        subst Range (sym e₃) g,
-        ap (λ a. stayed a (p, σ)) e ∙ ap (λ τ. (p, τ)) (sym e₃),
-      )
-  after w {q} {q₁} {σ} {σ₁} {p} R g (arrived {p′ = p′} {τ = τ} R′ m e₁ e₂ e₃) =
-      let z = ready-one B R R′ in
-      let e : wished w t p σ ≡ ok (p′, τ) = ap₂ (λ t p. wished w t p σ) (z .0) (z .1) ∙ m in
-      let u = keeps (R .accepts) w p (R .fits) σ (record { size = R .sized; range = g }) p′ τ e in (
-        p′,
+      let e : wished w t p σ ≡ ok (p₁, τ) = ap₂ (λ t p. wished w t p σ) (z .0) (z .1) ∙ m in
+      let u = keeps (R .accepts) w p (R .fits) σ (record { size = R .sized; range = g }) p₁ τ e in (
+        p₁,
         record { accepts = R .accepts; sized = ap length e₃ ∙ u .1 .size; holds = e₂; fits = u .0 },
         subst Range (sym e₃) (u .1 .range),
-        ap (λ a. stayed a (p, σ)) (tried t w p σ ∙ e) ∙ ap (λ τ. (p′, τ)) (sym e₃),
+        λ p′ σ′ r. arrives w e (subst (λ τ. Walk t p₁ τ p′ σ′) e₃ r),
       )
 
-  walked : {q q′ : Held} {σ σ′ : Store} {p : Place} → Ready f q σ t p → Range σ → Walked f q σ q′ σ′
-      → (ws : List Wish) × (q′ ≡ held (walk t ws (p, σ) .0)) × (σ′ ≡ walk t ws (p, σ) .1)
-  unfolding walk
-  walked R g here = ([], R .holds, refl)
-  walked R g (onward w s r) =
-      let x = after w R g s in let z = walked (x .1) (x .2) r in
-      (w ∷ z .0, z .1 ∙ ap (λ (y : Place × Store). held (walk t (z .0) y .0)) (sym (x .3)), z .2 ∙ ap (λ (y : Place × Store). walk t (z .0) y .1) (sym (x .3)))
+  walked : {q q′ : Held} {σ σ′ : Store} {p : Place} → Ready f q σ t p → Range σ → Walked f q σ q′ σ′ → (p′ : Place) × (q′ ≡ held p′) × Walk t p σ p′ σ′
+  walked {p = p} R g here = (p, R .holds, stay)
+  walked R g (onward w s r) = let x = after w R g s in let z = walked (x .1) (x .2) r in (z .0, z .1, x .3 (z .0) _ (z .2))
 
 -- "So from a start, however one walks, going back is refused only at the start itself."
 module _ {f : List ℕ} (B : AllBytes f) {d : Dir} {q₀ : Held} {σ₀ : Store} (range : Range σ₀) (size : (t : Tree) → Accepts f t → length σ₀ ≡ cells t) where
@@ -134,21 +133,20 @@ module _ {f : List ℕ} (B : AllBytes f) {d : Dir} {q₀ : Held} {σ₀ : Store}
       so : Sized t σ₀
       so = record { size = size t A; range = range }
 
-      z : (ws : List Wish) × (q ≡ held (walk t ws (start t d, σ₀) .0)) × (σ ≡ walk t ws (start t d, σ₀) .1)
+      z : (p : Place) × (q ≡ held p) × Walk t (start t d) σ₀ p σ
       z = walked B (record { accepts = A; sized = size t A; holds = e₂; fits = theorems.start-fits A d }) range w
 
-      last : Ready f q σ t (walk t (z .0) (start t d, σ₀) .0)
-      last = let u = theorems.walk-fits A d σ₀ so (z .0) in record { accepts = A; sized = ap length (z .2) ∙ u .1 .size; holds = z .1; fits = u .0 }
+      last : Ready f q σ t (z .0)
+      last = let u = theorems.walk-fits A d σ₀ so (z .2) in record { accepts = A; sized = u .1 .size; holds = z .1; fits = u .0 }
 
       go′ : StepSays stepBack f q σ (Refused n k) q′ σ′ → (q ≡ q₀) × (σ ≡ σ₀) × (n ≡ 30) × (k ≡ 0)
       go′ (refused h x₁ x₂ x₃) = no-way (before-ready B h last)
       go′ (stopped {r = r} R m x₁ x₂ x₃) =
           let y = ready-one B last R in
-          let e : stepBack t (walk t (z .0) (start t d, σ₀) .0) (walk t (z .0) (start t d, σ₀) .1) ≡ no r =
-          ap (stepBack t (walk t (z .0) (start t d, σ₀) .0)) (sym (z .2)) ∙ (ap₂ (λ t p. stepBack t p σ) (y .0) (y .1) ∙ m) in
-          let v = theorems.walk-refused A d σ₀ so (z .0) r e in
+          let e : stepBack t (z .0) σ ≡ no r = ap₂ (λ t p. stepBack t p σ) (y .0) (y .1) ∙ m in
+          let v = theorems.walk-refused A d σ₀ so r (z .2) e in
           let i : n ≡ number r = cc in let j : k ≡ 0 = cc in
-          (z .1 ∙ (ap held (v .0) ∙ sym e₂), z .2 ∙ v .1, i ∙ ap number (v .2), j)
+          (z .1 ∙ (ap held (v .0) ∙ sym e₂), v .1, i ∙ ap number (v .2), j)
       go′ (arrived R m x₁ x₂ x₃) = not-done (sym x₁)
 
 -- ---- runs

@@ -23,7 +23,8 @@ use Rattle.program.proofs.CheckSays.{TreeOf, accepted-of, refused-of}
 use Rattle.moves.specs.Places.{calls, Fits}
 use Rattle.moves.specs.Stores.{Reason, atEnd, wrongValue, zeroDivisor, badIndex, tooDeep, number, Answer, ok, no, bind, Store, startsFrom}
 use Rattle.moves.specs.Step.{step, stepBack}
-use Rattle.moves.specs.Runs.{Stop, made, because, stopNumber, onward, runBy, run, runBack}
+use Rattle.moves.specs.Runs.{Stop, made, because, onward, runBy, run, runBack}
+use Rattle.moves.specs.Stops.{stopNumber}
 use Rattle.moves.specs.Runs as runs
 use Rattle.moves.proofs.Accepted.{accepted-wf}
 use Rattle.moves.proofs.Match.{Placed, fits-placed}

@@ -9,12 +9,12 @@ use Rattle.order.specs.Trees.{Tree, procedures, recordsOf}
 use Rattle.records.specs.Walk.{kindAt, offsets}
 use Rattle.program.specs.Says.{Accepts}
 use Rattle.records.proofs.Offsets.{offsets-of, kinds-of}
-use Rattle.moves.specs.Labels.{at, head}
+use Rattle.moves.specs.Labels.{at}
 use Rattle.moves.specs.Places.{down, up}
 use Rattle.moves.proofs.Linked.{Con, Rec, nameL, beginL, endL, setL, skipL, ifL, elseL, fiL, fromL, loopL, untilL, callL, uncallL, Prog, forget, headOf, onto, off}
 use Rattle.moves.proofs.Cuts.{Local}
 use Rattle.moves.proofs.Rows.{prog}
-use Rattle.moves.proofs.Links.{at-is, head-is}
+use Rattle.moves.proofs.Links.{at-is}
 use Rattle.moves.proofs.Gaps.{tip}
 use Rattle.table.specs.Table.{blank, filled, shared, fromAbove, fromBelow, joined, tableOf}
 use Rattle.table.proofs.Facts.{Facts, facts}
@@ -27,7 +27,7 @@ use Rattle.table.proofs.Offsets.{labelled-is, offset-inside, kind-there
 pub record Tabled (t : Tree) (f tab : List ℕ) : Type 0 where
   pub offset : (x : ℕ) → x < length (recordsOf t) → getD tab x 0 ≡ getD (offsets f) x 0
   pub kinds : (x : ℕ) → x < length (recordsOf t) → getD tab (1024 + x) 0 ≡ kind (at t x)
-  pub heads : (x : ℕ) → x < length (recordsOf t) → getD tab (2048 + x) 0 ≡ head t x
+  pub heads : (x : ℕ) → x < length (recordsOf t) → getD tab (2048 + x) 0 ≡ headOf (prog t .at x)
   pub middles : (x : ℕ) (c : Con) → x < length (recordsOf t) → Part (prog t) c x → getD tab (3072 + x) 0 ≡ c .m
   pub tails : (x : ℕ) (c : Con) → x < length (recordsOf t) → Part (prog t) c x → getD tab (4096 + x) 0 ≡ c .r
   pub downs : (x : ℕ) → suc x < length (recordsOf t) → getD tab (5120 + x) 0 ≡ tip (prog t) x down
@@ -201,7 +201,7 @@ module _ (f : List ℕ) (t : Tree) (A : Accepts f t) where
         let z = offset-inside f x (omega (arith, count)) in
         low x (omega arith) ∙ (F .offset x h ∙ (let y : getD (offsets f) x 0 % 65536 ≡ getD (offsets f) x 0 = let s = short in omega arith in y));
     kinds = λ x h. low (1024 + x) (let b = few x h in omega arith) ∙ (F .kinds x h ∙ ap kind (sym (at-is t x)));
-    heads = λ x h. low (2048 + x) (let b = few x h in omega arith) ∙ (F .heads x h ∙ sym (head-is t x));
+    heads = λ x h. low (2048 + x) (let b = few x h in omega arith) ∙ F .heads x h;
     middles = λ x c h k. three .below (3072 + x) (let b = few x h in omega arith) ∙ middles₂ x h c k;
     tails = λ x c h k. three .below (4096 + x) (let b = few x h in omega arith) ∙ tails₂ x h c k;
     downs = λ x h. three .downs x (omega arith) ∙ above-is t P n p G T₂ (suc x) (kinds₂ (suc x) h) (heads₂ (suc x) h) (tails₂ (suc x) h) (P .at (suc x)) refl;
