@@ -3,6 +3,7 @@
 --     numbers-one               one number and record for an answer
 --     done-of, told-of          the case that gives 0, and the one that gives another number
 --     before-some, reason-some  a refusal's number is not 0
+--     run-gives, start-gives    whatever is said of a run or a start gives a number and a record
 use Prim.Native.Nat.{ℕ, zero, suc, _<_}
 use mathlib.Core.Path.{_≡_, refl, sym, ap₂, _∙_, subst}
 use mathlib.Core.List.{List}
@@ -11,11 +12,14 @@ use native.Mathlib.Omega.{arith}
 use borrow.Author.Tests.{ne-eqb}
 use Rattle.place.specs.declared.Place.{Place as Held}
 use Rattle.program.proofs.CheckSays.{fault-some}
+use Rattle.order.specs.Trees.{Tree}
+use Rattle.moves.specs.Places.{Dir, Place}
 use Rattle.moves.specs.Stores.{Reason, atEnd, wrongValue, zeroDivisor, badIndex, tooDeep, number, Store}
+use Rattle.moves.specs.Runs as runs
 use Rattle.machine.specs.declared.Told.{Told}
 use Rattle.machine.specs.declared.Told.the-variants.{Done, Refused}
 use Rattle.machine.specs.Whole.{toldBy}
-use Rattle.machine.specs.Answers.{Gives, done, numbered, Before, program, size, place}
+use Rattle.machine.specs.Answers.{Gives, done, numbered, Before, program, size, place, RunSays, refused, ran, StartSays, started}
 
 pub gives-done : {a : Told} → a ≡ Done → Gives a 0 0
 gives-done e = subst (λ (a : Told). Gives a 0 0) (sym e) done
@@ -90,3 +94,15 @@ by-number (suc n) = let h : suc n ≡ 0 → ⊥ = λ e. omega (arith, e) in give
 
 pub by-gives : {n m : ℕ} → n ≡ m → Gives (toldBy n) m 0
 by-gives {n} e = subst (λ (m : ℕ). Gives (toldBy n) m 0) e (by-number n)
+
+-- ---- whatever is said gives a number and a record
+abbrev pub Some : Told → Type 0
+Some a = (n : ℕ) × (k : ℕ) × Gives a n k
+
+pub run-gives : {run : Tree → ℕ → Place → Store → runs.Ran} {f : List ℕ} {q q′ : Held} {σ σ′ : Store} {n k : ℕ} {a : Told} → RunSays run f q σ n a k q′ σ′ → Some a
+run-gives (refused b g e₁ e₂ e₃) = (_, _, g)
+run-gives (ran R g e₁ e₂ e₃) = (_, _, g)
+
+pub start-gives : {f : List ℕ} {d : Dir} {a : Told} {q : Held} → StartSays f d a q → Some a
+start-gives (refused s g e) = (_, _, g)
+start-gives (started A g e) = (_, _, g)

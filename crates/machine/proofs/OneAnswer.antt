@@ -42,7 +42,7 @@ module _ {f : List ℕ} (B : AllBytes f) where
   faults-one s s′ = let e = determined f B _ _ s s′ in (ap (λ (g : Given). g .number) e, ap (λ (g : Given). g .label) e)
 
   module _ {q : Held} {σ : Store} where
-    before-one : {m k m′ k′ : ℕ} → Before f q σ m k → Before f q σ m′ k′ → (m ≡ m′) × (k ≡ k′)
+    pub before-one : {m k m′ k′ : ℕ} → Before f q σ m k → Before f q σ m′ k′ → (m ≡ m′) × (k ≡ k′)
     before-one (program s) (program s′) = faults-one s s′
     before-one (program s) (size A h) = no-way (not-both A s)
     before-one (program s) (place A e h) = no-way (not-both A s)
