@@ -17,9 +17,10 @@ use Rattle.program.specs.Says.{Accepts}
 use Rattle.moves.specs.Step.{step, stepBack}
 use Rattle.moves.specs.Stores.{Answer as Arrival, Store}
 use Rattle.machine.specs.declared.Told.{Told}
-use Rattle.machine.specs.declared.Told.the-variants.{Done, Refused}
-use Rattle.machine.specs.Answers.{RunSays, StepSays, refused, stopped, arrived}
+use Rattle.machine.specs.declared.Told.the-variants.{Refused}
+use Rattle.machine.specs.Answers.{Gives, numbered, RunSays, StepSays, refused, stopped, arrived}
 use Rattle.machine.specs.Answers as machine
+use Rattle.machine.proofs.Giving.{numbers-one}
 use Rattle.machine.proofs.Whole.{step-says}
 use Rattle.desk.specs.declared.Session.{Session}
 use Rattle.desk.specs.declared.Outcome.{Outcome}
@@ -32,7 +33,7 @@ same s q σ eq es = λ i. record { place = eq i; count = s .count; cells = (ap (
 
 -- a step was made, or it moved neither place nor store
 abbrev Kept : Told → Held → Held → Store → Store → Type 0
-Kept told q q′ σ σ′ = (told ≡ Done) ⊎ ((q′ ≡ q) × (σ′ ≡ σ))
+Kept told q q′ σ σ′ = Gives told 0 0 ⊎ ((q′ ≡ q) × (σ′ ≡ σ))
 
 kept : (move : Tree → Place → Store → Arrival (Place × Store)) (f : List ℕ) (q : Held) (σ : Store) (told : Told) (q′ : Held) (σ′ : Store) → StepSays move f q σ told q′ σ′ → Kept told q q′ σ σ′
 kept move f q σ told q′ σ′ (refused b et eq es) = inr (eq, es)
@@ -46,14 +47,15 @@ run-kept true f q σ told steps q′ σ′ r = kept stepBack f q σ told q′ σ
 module _ (back : Bool) (f : List ℕ) (s : Session) where
   pub step-kept : (m : Outcome) → MoveSays back f s 1 m → (m .answer .reason ≡ 0 → ⊥) → m .session ≡ s
   step-kept m (over h o e) n = ap (λ (m : Outcome). m .session) e
-  step-kept m (within {told} {steps} {q} {σ} h r e) n = pick (run-kept back f (s .place) (storeOf s) told steps q σ r)
+  step-kept m (within {told} {steps = steps} {q = q} {σ = σ} h r g e) n = pick (run-kept back f (s .place) (storeOf s) told steps q σ r)
     where
       pick : Kept told (s .place) q (storeOf s) σ → m .session ≡ s
-      pick (inl et) = absurd (n (ap (λ (m : Outcome). m .answer .reason) e ∙ ap (λ (t : Told). numbers t steps .reason) et))
+      pick (inl g₀) = absurd (n (ap (λ (m : Outcome). m .answer .reason) e ∙ numbers-one g g₀ .0))
       pick (inr k) = ap (λ (m : Outcome). m .session) e ∙ same s q σ (k .0) (k .1)
 
-  pub wrong-count : AllBytes f → length (s .cells) ≡ 2048 → (t : Tree) → Accepts f t → (s .count ≡ cells t → ⊥) → (n : ℕ) (m : Outcome) → MoveSays back f s n m → m ≡ made (numbers (Refused 20 0) 0) s
+  pub wrong-count : AllBytes f → length (s .cells) ≡ 2048 → (t : Tree) → Accepts f t → (s .count ≡ cells t → ⊥) → (n : ℕ) (m : Outcome) → MoveSays back f s n m → m ≡ made (numbers 20 0 0) s
   wrong-count B l t A ne n m (over h o e) = move-one B s back n (over h o e) (over h (size A) refl)
-  wrong-count B l t A ne n m (within h r e) =
-      move-one B s back n (within h r e) (within h (machine.refused (machine.size A (λ z. ne (sym (length-take-le (s .count) (s .cells) (omega (arith, h, l))) ∙ z))) refl refl refl refl) refl)
-      ∙ ap (made (numbers (Refused 20 0) 0)) (same s (s .place) (storeOf s) refl refl)
+  wrong-count B l t A ne n m (within h r g e) =
+      let twenty : Gives (Refused 20 0) 20 0 = numbered {n = 20} (omega arith) in
+      move-one B s back n (within h r g e) (within h (machine.refused (machine.size A (λ z. ne (sym (length-take-le (s .count) (s .cells) (omega (arith, h, l))) ∙ z))) twenty refl refl refl) twenty refl)
+      ∙ ap (made (numbers 20 0 0)) (same s (s .place) (storeOf s) refl refl)

@@ -15,9 +15,8 @@ use Rattle.moves.specs.Stores.{Store}
 use Rattle.moves.specs.Step.{start}
 use Rattle.moves.specs.Runs as runs
 use Rattle.session.specs.Session.{Reads}
-use Rattle.machine.specs.Answers.{Ready, RunSays, direction}
+use Rattle.machine.specs.Answers.{Gives, Ready, RunSays, direction}
 use Rattle.machine.specs.declared.Told.{Told}
-use Rattle.machine.specs.declared.Told.the-variants.{Done, Refused}
 use Rattle.saved.specs.Answers.{ReadBefore, SaveSays}
 use Rattle.desk.specs.declared.Session.{Session}
 use Rattle.desk.specs.declared.Answer.{Answer}
@@ -25,9 +24,8 @@ use Rattle.desk.specs.declared.Outcome.{Outcome}
 use Rattle.desk.specs.declared.Counts.{Counts}
 
 -- The document's number (0 where nothing is refused), the record (0 where there is none), and the count.
-abbrev pub numbers : Told → ℕ → Answer
-numbers Done n = record { reason = 0; label = 0; count = n }
-numbers (Refused m k) n = record { reason = m; label = k; count = n }
+abbrev pub numbers : ℕ → ℕ → ℕ → Answer
+numbers m k n = record { reason = m; label = k; count = n }
 
 -- The answer, and the session afterwards.
 abbrev pub made : Answer → Session → Outcome
@@ -42,9 +40,9 @@ abbrev pub laid : Session → Held → ℕ → Store → Session
 laid s q n σ = record { place = q; count = n; cells = σ ++ drop n (s .cells) }
 
 -- A count over 2,048 is no program's: the program's own refusal, else 20.
-pub data OverSays (f : List ℕ) : Told → Type 0 where
-  program : {n k : ℕ} → Says f (fault n k) → OverSays f (Refused n k)
-  size : {t : Tree} → Accepts f t → OverSays f (Refused 20 0)
+pub data OverSays (f : List ℕ) : ℕ → ℕ → Type 0 where
+  program : {n k : ℕ} → Says f (fault n k) → OverSays f n k
+  size : {t : Tree} → Accepts f t → OverSays f 20 0
 
 -- Forward, or back.
 abbrev pub way : Bool → Tree → ℕ → Place → Store → runs.Ran
@@ -53,9 +51,9 @@ way true = runs.runBack
 
 -- A run of n steps from the session's place over its store.
 pub data MoveSays (back : Bool) (f : List ℕ) (s : Session) (n : ℕ) (m : Outcome) : Type 0 where
-  over : {told : Told} → 2048 < s .count → OverSays f told → m ≡ made (numbers told 0) s → MoveSays back f s n m
-  within : {told : Told} {steps : ℕ} {q : Held} {σ : Store} → s .count ≤ 2048 → RunSays (way back) f (s .place) (storeOf s) n told steps q σ
-      → m ≡ made (numbers told steps) (laid s q (s .count) σ) → MoveSays back f s n m
+  over : {reason k : ℕ} → 2048 < s .count → OverSays f reason k → m ≡ made (numbers reason k 0) s → MoveSays back f s n m
+  within : {told : Told} {reason k steps : ℕ} {q : Held} {σ : Store} → s .count ≤ 2048 → RunSays (way back) f (s .place) (storeOf s) n told steps q σ
+      → Gives told reason k → m ≡ made (numbers reason k steps) (laid s q (s .count) σ) → MoveSays back f s n m
 
 -- 0 is down, any other number up.
 abbrev pub upward : ℕ → Bool
@@ -63,19 +61,20 @@ upward d = not (eqb d 0)
 
 -- A start of the program, over zeros; a refused program leaves the session.
 pub data BeginSays (f : List ℕ) (s : Session) (d : ℕ) (m : Outcome) : Type 0 where
-  refused : {n k : ℕ} → Says f (fault n k) → m ≡ made (numbers (Refused n k) 0) s → BeginSays f s d m
-  begun : {t : Tree} → Accepts f t → m ≡ made (numbers Done 0) (laid s (held (start t (direction (upward d)))) (cells t) (replicate (cells t) (pos 0)))
+  refused : {n k : ℕ} → Says f (fault n k) → m ≡ made (numbers n k 0) s → BeginSays f s d m
+  begun : {t : Tree} → Accepts f t → m ≡ made (numbers 0 0 0) (laid s (held (start t (direction (upward d)))) (cells t) (replicate (cells t) (pos 0)))
       → BeginSays f s d m
 
 -- A session from saved bytes, for a store of the program's size; a refused reading leaves the session.
 pub data OpenSays (f bytes : List ℕ) (s : Session) (m : Outcome) : Type 0 where
-  refused : {σ : Store} {n k : ℕ} → ((t : Tree) → Accepts f t → length σ ≡ cells t) → ReadBefore f bytes σ n k → m ≡ made (numbers (Refused n k) 0) s → OpenSays f bytes s m
-  opened : {t : Tree} {p : Place} {q : Held} {σ : Store} → Reads bytes p σ → Ready f q σ t p → m ≡ made (numbers Done 0) (laid s q (cells t) σ) → OpenSays f bytes s m
+  refused : {σ : Store} {n k : ℕ} → ((t : Tree) → Accepts f t → length σ ≡ cells t) → ReadBefore f bytes σ n k → m ≡ made (numbers n k 0) s → OpenSays f bytes s m
+  opened : {t : Tree} {p : Place} {q : Held} {σ : Store} → Reads bytes p σ → Ready f q σ t p → m ≡ made (numbers 0 0 0) (laid s q (cells t) σ) → OpenSays f bytes s m
 
 -- A save of the session's place and store: the bytes written are the count.
 pub data SavingSays (f : List ℕ) (s : Session) (buf : List ℕ) (a : Answer) (buf′ : List ℕ) : Type 0 where
-  over : {told : Told} → 2048 < s .count → OverSays f told → a ≡ numbers told 0 → buf′ ≡ buf → SavingSays f s buf a buf′
-  within : {told : Told} {written : ℕ} → s .count ≤ 2048 → SaveSays f (s .place) (storeOf s) buf told written buf′ → a ≡ numbers told written → SavingSays f s buf a buf′
+  over : {reason k : ℕ} → 2048 < s .count → OverSays f reason k → a ≡ numbers reason k 0 → buf′ ≡ buf → SavingSays f s buf a buf′
+  within : {told : Told} {reason k written : ℕ} → s .count ≤ 2048 → SaveSays f (s .place) (storeOf s) buf told written buf′ → Gives told reason k
+      → a ≡ numbers reason k written → SavingSays f s buf a buf′
 
 -- "An accepted file answers its counts of records, procedures and cells"; else the number and the record.
 abbrev pub counts : Given → Counts

@@ -1,5 +1,5 @@
 -- What the inner functions go by. Nothing here has to be believed: proofs/Cases joins it to Desk.
-use Prim.Native.Nat.{ℕ}
+use Prim.Native.Nat.{ℕ, _<_}
 use mathlib.Core.List.{List, _++_}
 use mathlib.Core.Path.{_≡_}
 use lib.IntN.{ℤ}
@@ -7,16 +7,25 @@ use lib.ListN.{length, take, drop}
 use Rattle.place.specs.declared.Place.{Place as Held}
 use Rattle.moves.specs.Stores.{Store}
 use Rattle.machine.specs.declared.Told.{Told}
-use Rattle.machine.specs.declared.Told.the-variants.{Done, Refused}
+use Rattle.machine.specs.Answers.{Gives}
 use Rattle.saved.specs.Answers.{ReadSays}
 use Rattle.desk.specs.declared.Session.{Session}
+use Rattle.desk.specs.declared.Answer.{Answer}
 use Rattle.desk.specs.declared.Outcome.{Outcome}
-use Rattle.desk.specs.Desk.{numbers, made}
+use Rattle.desk.specs.Desk.{numbers, made, OverSays}
+
+-- an answer in numbers, with this count
+abbrev pub Numbered : Told → ℕ → Answer → Type 0
+Numbered told n a = (m k : ℕ) → Gives told m k → a ≡ numbers m k n
+
+-- what a session is told whose count no program has
+abbrev pub OverTold : List ℕ → Told → Type 0
+OverTold f told = (m : ℕ) × (k : ℕ) × OverSays f m k × Gives told m k
 
 -- what a reading leaves: the session that was read, or the one that was there
-abbrev pub settling : Session → Told → Held → ℕ → List ℤ → Outcome
-settling s Done q n zs = made (numbers Done 0) (record { place = q; count = n; cells = zs })
-settling s (Refused m k) q n zs = made (numbers (Refused m k) 0) s
+pub record Leaves (s : Session) (told : Told) (q : Held) (n : ℕ) (zs : List ℤ) (o : Outcome) : Type 0 where
+  pub found : Gives told 0 0 → o ≡ made (numbers 0 0 0) (record { place = q; count = n; cells = zs })
+  pub kept : (m k : ℕ) → 0 < m → Gives told m k → o ≡ made (numbers m k 0) s
 
 -- the first n cells are lent to a reading, and its outcome is m
 pub record Settles (f bytes : List ℕ) (s : Session) (n : ℕ) (m : Outcome) : Type 0 where
@@ -25,4 +34,4 @@ pub record Settles (f bytes : List ℕ) (s : Session) (n : ℕ) (m : Outcome) : 
   pub store : Store
   pub sized : length (take n (s .cells)) ≡ n
   pub read : ReadSays f bytes (take n (s .cells)) told place store
-  pub left : m ≡ settling s told place n (store ++ drop n (s .cells))
+  pub left : Leaves s told place n (store ++ drop n (s .cells)) m

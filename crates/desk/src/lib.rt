@@ -5,9 +5,8 @@ ghost use Prim.Native.Nat.{_≤_};
 ghost use lib.IntN.{pos};
 ghost use lib.ListN.{length, replicate};
 ghost use Rattle.machine.specs.Answers.{RunSays};
-ghost use Rattle.machine.specs.declared.Told.the-variants.{Refused};
-ghost use Rattle.desk.specs.Desk.{numbers, made, laid, OverSays, way, MoveSays, BeginSays, OpenSays, SavingSays, CheckSays};
-ghost use Rattle.desk.specs.Whole.{settling, Settles};
+ghost use Rattle.desk.specs.Desk.{numbers, made, laid, way, MoveSays, BeginSays, OpenSays, SavingSays, CheckSays};
+ghost use Rattle.desk.specs.Whole.{Numbered, OverTold, Leaves, Settles};
 use machine::Ran;
 use machine::Told;
 use place::Place;
@@ -47,7 +46,7 @@ pub struct Outcome {
 
 // An answer in numbers.
 fn in_numbers(told: Told, count: usize) -> Answer
-    ensures { λ r. ⌜ r ≡ numbers told count ⌝ }
+    ensures { λ r. ⌜ Numbered told count r ⌝ }
 {
     match told {
         Told::Done => Answer {
@@ -65,7 +64,7 @@ fn in_numbers(told: Told, count: usize) -> Answer
 
 // What a session is told whose count no program has.
 fn over(file: &[u8]) -> Told
-    ensures { λ r. ⌜ OverSays (now (file .entry)) r ⌝ }
+    ensures { λ r. ⌜ OverTold (now (file .entry)) r ⌝ }
 {
     match program::check(file) {
         Checked::Refused(number, k) => Told::Refused(number, k),
@@ -162,7 +161,7 @@ fn laid_out(session: Session, place: Place, count: usize) -> Session
 
 // Refused, the session as it was.
 fn refused(session: Session, number: u8, k: usize) -> Outcome
-    ensures { λ r. ⌜ r ≡ made (numbers (Refused number k) 0) session ⌝ }
+    ensures { λ r. ⌜ r ≡ made (numbers number k 0) session ⌝ }
 {
     let answer = Answer {
         reason: number,
@@ -190,7 +189,7 @@ pub fn started(file: &[u8], session: Session, direction: u32) -> Outcome
 
 // What a reading leaves: the session that was read, or the one that was there.
 fn settled(session: Session, told: Told, place: Place, count: usize, cells: [i32; 2048]) -> Outcome
-    ensures { λ r. ⌜ r ≡ settling session told place count cells ⌝ }
+    ensures { λ r. ⌜ Leaves session told place count cells r ⌝ }
 {
     match told {
         Told::Refused(number, k) => refused(session, number, k),

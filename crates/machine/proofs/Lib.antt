@@ -11,6 +11,7 @@ pub mod Decided
 pub mod Fates
 pub mod Calls
 pub mod Steps
+pub mod Giving
 pub mod Whole
 pub mod WholeCases
 pub mod Starts

@@ -20,18 +20,16 @@ use Rattle.program.proofs.CheckSays.{determined, accepts-unique}
 use Rattle.moves.specs.Places.{Fits}
 use Rattle.moves.specs.Stores.{Reason, number, Answer, ok, no, Store, Sized}
 use Rattle.moves.specs.Step.{step, stepBack, start}
-use Rattle.moves.specs.Runs.{made, run, runBack}
+use Rattle.moves.specs.Runs.{stopNumber}
 use Rattle.moves.specs.Runs as runs
 use Rattle.moves.proofs.Theorems.{back-undoes-forward, forward-undoes-back, run-undone, run-back-undone, run-fits}
 use Rattle.machine.specs.declared.Told.{Told}
-use Rattle.machine.specs.declared.Told.the-variants.{Done, Refused}
-use Rattle.machine.specs.Answers.{Before, program, size, place, Ready, StepSays, refused, stopped, arrived, toldOf, RunSays, ran, StartSays, started}
+use Rattle.machine.specs.declared.Told.the-variants.{Done}
+use Rattle.machine.specs.Answers.{Gives, done, Before, program, size, place, Ready, StepSays, refused, stopped, arrived, RunSays, ran, StartSays, started}
+use Rattle.machine.proofs.Giving.{gives-one, gives-done, not-none, before-some, reason-some}
 
 pub no-way : {X : Type 0} → ⊥ → X
 no-way h = absurd h
-
-pub not-done : {X : Type 0} {n k : ℕ} → Done ≡ Refused n k → X
-not-done e = no-way (let z : _≡_ {A = ℕ} 0 1 = cc in omega arith)
 
 module _ {f : List ℕ} (B : AllBytes f) where
   pub not-both : {t : Tree} {n k : ℕ} → Accepts f t → Says f (fault n k) → ⊥
@@ -44,7 +42,7 @@ module _ {f : List ℕ} (B : AllBytes f) where
   faults-one s s′ = let e = determined f B _ _ s s′ in (ap (λ (g : Given). g .number) e, ap (λ (g : Given). g .label) e)
 
   module _ {q : Held} {σ : Store} where
-    before-one : {m k m′ k′ : ℕ} → Before f q σ m k → Before f q σ m′ k′ → (m ≡ m′) × (k ≡ k′)
+    pub before-one : {m k m′ k′ : ℕ} → Before f q σ m k → Before f q σ m′ k′ → (m ≡ m′) × (k ≡ k′)
     before-one (program s) (program s′) = faults-one s s′
     before-one (program s) (size A h) = no-way (not-both A s)
     before-one (program s) (place A e h) = no-way (not-both A s)
@@ -66,12 +64,12 @@ module _ {f : List ℕ} (B : AllBytes f) where
     pub run-one : (run : Tree → ℕ → Place → Store → runs.Ran) (n : ℕ) {a a′ : Told} {k k′ : ℕ} {x x′ : Held} {τ τ′ : Store}
         → RunSays run f q σ n a k x τ → RunSays run f q σ n a′ k′ x′ τ′ → (a ≡ a′) × (k ≡ k′) × (x ≡ x′) × (τ ≡ τ′)
     run-one run n (refused {m} {k} b e₁ e₂ e₃ e₄) (refused {m = m′} {k = k′} b′ e₁′ e₂′ e₃′ e₄′) =
-        let z = before-one b b′ in (e₁ ∙ (ap₂ Refused (z .0) (z .1) ∙ sym e₁′), e₂ ∙ sym e₂′, e₃ ∙ sym e₃′, e₄ ∙ sym e₄′)
+        let z = before-one b b′ in (gives-one e₁ e₁′ (z .0) (z .1), e₂ ∙ sym e₂′, e₃ ∙ sym e₃′, e₄ ∙ sym e₄′)
     run-one run n (refused b e₁ e₂ e₃ e₄) (ran R e₁′ e₂′ e₃′ e₄′) = no-way (before-ready b R)
     run-one run n (ran R e₁ e₂ e₃ e₄) (refused b e₁′ e₂′ e₃′ e₄′) = no-way (before-ready b R)
     run-one run n (ran {t} {p} R e₁ e₂ e₃ e₄) (ran {t = t′} {p = p′} R′ e₁′ e₂′ e₃′ e₄′) =
         let z = ready-one R R′ in let e : run t n p σ ≡ run t′ n p′ σ = ap₂ (λ t p. run t n p σ) (z .0) (z .1) in (
-          e₁ ∙ (ap (λ (r : runs.Ran). toldOf (r .stop)) e ∙ sym e₁′),
+          gives-one e₁ e₁′ (ap (λ (r : runs.Ran). stopNumber (r .stop)) e) refl,
           e₂ ∙ (ap (λ (r : runs.Ran). r .steps) e ∙ sym e₂′),
           e₃ ∙ (ap (λ (r : runs.Ran). held (r .place)) e ∙ sym e₃′),
           e₄ ∙ (ap (λ (r : runs.Ran). r .store) e ∙ sym e₄′),
@@ -83,13 +81,13 @@ module _ {f : List ℕ} (B : AllBytes f) where
 
       pub step-one : {a a′ : Told} {x x′ : Held} {τ τ′ : Store} → StepSays move f q σ a x τ → StepSays move f q σ a′ x′ τ′ → (a ≡ a′) × (x ≡ x′) × (τ ≡ τ′)
       step-one (refused b e₁ e₂ e₃) (refused b′ e₁′ e₂′ e₃′) =
-          let z = before-one b b′ in (e₁ ∙ (ap₂ Refused (z .0) (z .1) ∙ sym e₁′), e₂ ∙ sym e₂′, e₃ ∙ sym e₃′)
+          let z = before-one b b′ in (gives-one e₁ e₁′ (z .0) (z .1), e₂ ∙ sym e₂′, e₃ ∙ sym e₃′)
       step-one (refused b e₁ e₂ e₃) (stopped R m e₁′ e₂′ e₃′) = no-way (before-ready b R)
       step-one (refused b e₁ e₂ e₃) (arrived R m e₁′ e₂′ e₃′) = no-way (before-ready b R)
       step-one (stopped R m e₁ e₂ e₃) (refused b e₁′ e₂′ e₃′) = no-way (before-ready b R)
       step-one (stopped {r = r} R m e₁ e₂ e₃) (stopped {r = r′} R′ m′ e₁′ e₂′ e₃′) =
           let z : _≡_ {A = Answer (Place × Store)} (no r) (no r′) = same-move R R′ m m′ in let y : r ≡ r′ = cc in
-          (e₁ ∙ (ap (λ r. Refused (number r) 0) y ∙ sym e₁′), e₂ ∙ sym e₂′, e₃ ∙ sym e₃′)
+          (gives-one e₁ e₁′ (ap number y) refl, e₂ ∙ sym e₂′, e₃ ∙ sym e₃′)
       step-one (stopped {r = r} R m e₁ e₂ e₃) (arrived {p′ = p} {τ = τ} R′ m′ e₁′ e₂′ e₃′) =
           let z : _≡_ {A = Answer (Place × Store)} (no r) (ok (p, τ)) = same-move R R′ m m′ in let y : _≡_ {A = ℕ} 0 1 = cc in no-way (omega arith)
       step-one (arrived R m e₁ e₂ e₃) (refused b e₁′ e₂′ e₃′) = no-way (before-ready b R)
@@ -97,29 +95,29 @@ module _ {f : List ℕ} (B : AllBytes f) where
           let z : _≡_ {A = Answer (Place × Store)} (ok (p, τ)) (no r) = same-move R R′ m m′ in let y : _≡_ {A = ℕ} 0 1 = cc in no-way (omega arith)
       step-one (arrived {p′ = p} {τ = τ} R m e₁ e₂ e₃) (arrived {p′ = p′} {τ = τ′} R′ m′ e₁′ e₂′ e₃′) =
           let z : _≡_ {A = Answer (Place × Store)} (ok (p, τ)) (ok (p′, τ′)) = same-move R R′ m m′ in let y : _≡_ {A = Place × Store} (p, τ) (p′, τ′) = cc in
-          (e₁ ∙ sym e₁′, e₂ ∙ (ap (λ (s : Place × Store). held (s .0)) y ∙ sym e₂′), e₃ ∙ (ap (λ (s : Place × Store). s .1) y ∙ sym e₃′))
+          (gives-one e₁ e₁′ refl refl, e₂ ∙ (ap (λ (s : Place × Store). held (s .0)) y ∙ sym e₂′), e₃ ∙ (ap (λ (s : Place × Store). s .1) y ∙ sym e₃′))
 
   pub start-one : {d : Dir} {a a′ : Told} {x x′ : Held} → StartSays f d a x → StartSays f d a′ x′ → (a ≡ a′) × (x ≡ x′)
   start-one (refused s e₁ e₂) (refused s′ e₁′ e₂′) =
-      let z = faults-one s s′ in (e₁ ∙ (ap₂ Refused (z .0) (z .1) ∙ sym e₁′), e₂ ∙ sym e₂′)
+      let z = faults-one s s′ in (gives-one e₁ e₁′ (z .0) (z .1), e₂ ∙ sym e₂′)
   start-one (refused s e₁ e₂) (started A e₁′ e₂′) = no-way (not-both A s)
   start-one (started A e₁ e₂) (refused s e₁′ e₂′) = no-way (not-both A s)
-  start-one {d} (started {t} A e₁ e₂) (started {t = t′} A′ e₁′ e₂′) = (e₁ ∙ sym e₁′, e₂ ∙ (ap (λ t. held (start t d)) (accepts-unique f B t t′ A A′) ∙ sym e₂′))
+  start-one {d} (started {t} A e₁ e₂) (started {t = t′} A′ e₁′ e₂′) = (gives-one e₁ e₁′ refl refl, e₂ ∙ (ap (λ t. held (start t d)) (accepts-unique f B t t′ A A′) ∙ sym e₂′))
 
   -- ---- demand 3, of the answers themselves
   module _ {q : Held} {σ : Store} (range : (i : ℕ) → SFits w32 (getD σ i (pos 0))) where
-    pub back-after-step : {q′ q″ : Held} {σ′ σ″ : Store} {a : Told} → StepSays step f q σ Done q′ σ′ → StepSays stepBack f q′ σ′ a q″ σ″ → (a ≡ Done) × (q″ ≡ q) × (σ″ ≡ σ)
-    back-after-step (refused b e₁ e₂ e₃) s = not-done e₁
-    back-after-step (stopped R m e₁ e₂ e₃) s = not-done e₁
-    back-after-step {q′} {σ′ = σ′} (arrived {t} {p} {p′} {τ} R m e₁ e₂ e₃) s =
+    pub back-after-step : {q′ q″ : Held} {σ′ σ″ : Store} {a a′ : Told} → StepSays step f q σ a q′ σ′ → Gives a 0 0 → StepSays stepBack f q′ σ′ a′ q″ σ″ → Gives a′ 0 0 × (q″ ≡ q) × (σ″ ≡ σ)
+    back-after-step (refused b e₁ e₂ e₃) g s = not-none (before-some b) e₁ g
+    back-after-step (stopped {r = r} R m e₁ e₂ e₃) g s = not-none (reason-some r) e₁ g
+    back-after-step {q′} {σ′ = σ′} (arrived {t} {p} {p′} {τ} R m e₁ e₂ e₃) g s =
         let u = back-undoes-forward (R .accepts) p (R .fits) σ (record { size = R .sized; range = range }) p′ τ m in
-        let y : StepSays stepBack f q′ σ′ Done q σ = arrived (record { accepts = R .accepts; sized = ap length e₃ ∙ u .1 .size; holds = e₂; fits = u .0 }) (ap (stepBack t p′) e₃ ∙ u .2) refl (R .holds) refl in
-        step-one stepBack s y
+        let y : StepSays stepBack f q′ σ′ Done q σ = arrived (record { accepts = R .accepts; sized = ap length e₃ ∙ u .1 .size; holds = e₂; fits = u .0 }) (ap (stepBack t p′) e₃ ∙ u .2) done (R .holds) refl in
+        let z = step-one stepBack s y in (gives-done (z .0), z .1, z .2)
 
-    pub step-after-back : {q′ q″ : Held} {σ′ σ″ : Store} {a : Told} → StepSays stepBack f q σ Done q′ σ′ → StepSays step f q′ σ′ a q″ σ″ → (a ≡ Done) × (q″ ≡ q) × (σ″ ≡ σ)
-    step-after-back (refused b e₁ e₂ e₃) s = not-done e₁
-    step-after-back (stopped R m e₁ e₂ e₃) s = not-done e₁
-    step-after-back {q′} {σ′ = σ′} (arrived {t} {p} {p′} {τ} R m e₁ e₂ e₃) s =
+    pub step-after-back : {q′ q″ : Held} {σ′ σ″ : Store} {a a′ : Told} → StepSays stepBack f q σ a q′ σ′ → Gives a 0 0 → StepSays step f q′ σ′ a′ q″ σ″ → Gives a′ 0 0 × (q″ ≡ q) × (σ″ ≡ σ)
+    step-after-back (refused b e₁ e₂ e₃) g s = not-none (before-some b) e₁ g
+    step-after-back (stopped {r = r} R m e₁ e₂ e₃) g s = not-none (reason-some r) e₁ g
+    step-after-back {q′} {σ′ = σ′} (arrived {t} {p} {p′} {τ} R m e₁ e₂ e₃) g s =
         let u = forward-undoes-back (R .accepts) p (R .fits) σ (record { size = R .sized; range = range }) p′ τ m in
-        let y : StepSays step f q′ σ′ Done q σ = arrived (record { accepts = R .accepts; sized = ap length e₃ ∙ u .1 .size; holds = e₂; fits = u .0 }) (ap (step t p′) e₃ ∙ u .2) refl (R .holds) refl in
-        step-one step s y
+        let y : StepSays step f q′ σ′ Done q σ = arrived (record { accepts = R .accepts; sized = ap length e₃ ∙ u .1 .size; holds = e₂; fits = u .0 }) (ap (step t p′) e₃ ∙ u .2) done (R .holds) refl in
+        let z = step-one step s y in (gives-done (z .0), z .1, z .2)

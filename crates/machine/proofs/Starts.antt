@@ -15,7 +15,7 @@ use Rattle.program.specs.Says.{given, Accepts, Says}
 use Rattle.program.specs.Arrays.{arraysAt}
 use Rattle.program.specs.declared.Checked.{Checked}
 use Rattle.program.specs.declared.Checked.the-variants.{Accepted, Refused as RefusedFile}
-use Rattle.program.proofs.CheckSays.{TreeOf, accepted-of, refused-of}
+use Rattle.program.proofs.CheckSays.{TreeOf, accepted-of, refused-of, fault-some}
 use Rattle.moves.specs.Step.{start}
 use Rattle.moves.proofs.Linked.{Prog, side, gateL}
 use Rattle.moves.proofs.Cuts.{gap, leave, in-main, Sits}
@@ -31,9 +31,10 @@ use Rattle.machine.specs.declared.Told.the-variants.{Done, Refused}
 use Rattle.machine.specs.declared.Started.{Started}
 use Rattle.machine.specs.Decide.{gateOf, alongOf}
 use Rattle.machine.specs.Whole.{numberOf, startOf}
-use Rattle.machine.specs.Answers.{direction, StartSays, refused, started}
+use Rattle.machine.specs.Answers.{numbered, direction, StartSays, refused, started}
 use Rattle.machine.proofs.Labels.{along-is}
 use Rattle.machine.proofs.Calls.{gate-is, gate-side, gate-encl}
+use Rattle.machine.proofs.Giving.{gives-done}
 use Rattle.machine.proofs.Whole.{agrees}
 
 module _ (f : List ℕ) (t : Tree) (A : Accepts f t) (d : Dir) where
@@ -69,9 +70,9 @@ module _ (f : List ℕ) (a : Checked) (s : Says f (given a)) (up : Bool) where
   pub started-says : (records p c : ℕ) → a ≡ Accepted records p c → (r : Started) → r ≡ startOf f up → StartSays f (direction up) (r .told) (r .place)
   started-says records p c e r h =
       let T = accepted-of f a records p c s e in
-      started (T .accepts) (ap (λ (r : Started). r .told) h)
+      started (T .accepts) (gives-done (ap (λ (r : Started). r .told) h))
       (ap (λ (r : Started). r .place) h
       ∙ (ap (λ n. movedOf blankOf n (gateOf (tableOf f) 0 n) (alongOf (tableOf f) n (gateOf (tableOf f) 0 n))) (number-is up) ∙ start-held f (T .tree) (T .accepts) (direction up)))
 
   pub refused-start : (m k : ℕ) → a ≡ RefusedFile m k → (q : Held) → q ≡ blankOf → StartSays f (direction up) (Refused m k) q
-  refused-start m k e q h = refused (refused-of f a m k s e) refl h
+  refused-start m k e q h = let x = refused-of f a m k s e in refused x (numbered (fault-some f x)) h

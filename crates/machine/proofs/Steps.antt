@@ -22,8 +22,7 @@ use Rattle.records.specs.Reading.{recordAs}
 use Rattle.moves.specs.Places.{calls, Fits}
 use Rattle.moves.specs.Stores.{Reason, atEnd, wrongValue, zeroDivisor, badIndex, tooDeep, number, Answer, ok, no, Store}
 use Rattle.moves.specs.Step.{step}
-use Rattle.moves.specs.Runs.{Ran, Stop, made, because, onward, runBy, run}
-use Rattle.moves.specs.Stops.{stopNumber}
+use Rattle.moves.specs.Runs.{Ran, Stop, made, because, stopNumber, onward, runBy, run}
 use Rattle.moves.proofs.Linked.{Rec, nameL, beginL, endL, setL, skipL, ifL, elseL, fiL, fromL, loopL, untilL, callL, uncallL, Prog, forget, side}
 use Rattle.moves.proofs.Cuts.{Cut, met, leave, enter′, return′, port, through, cstep, Local, Wf, by-call, by-uncall, Sits}
 use Rattle.moves.proofs.Loop.{fit-gate, lo-met, hi-met, not-begin, not-end}

@@ -19,12 +19,11 @@ use Rattle.program.specs.Arrays.{arraysAt}
 use Rattle.program.specs.declared.Checked.{Checked}
 use Rattle.program.specs.declared.Checked.the-variants.{Accepted, Refused as RefusedFile}
 use Rattle.program.proofs.ArrayTree.{starting, arrays-start, arrays-length}
-use Rattle.program.proofs.CheckSays.{TreeOf, accepted-of, refused-of}
+use Rattle.program.proofs.CheckSays.{TreeOf, accepted-of, refused-of, fault-some}
 use Rattle.moves.specs.Places.{calls, Fits}
-use Rattle.moves.specs.Stores.{Reason, atEnd, wrongValue, zeroDivisor, badIndex, tooDeep, number, Answer, ok, no, bind, Store, startsFrom}
+use Rattle.moves.specs.Stores.{Answer, ok, no, bind, Store, startsFrom}
 use Rattle.moves.specs.Step.{step, stepBack}
-use Rattle.moves.specs.Runs.{Stop, made, because, onward, runBy, run, runBack}
-use Rattle.moves.specs.Stops.{stopNumber}
+use Rattle.moves.specs.Runs.{stopNumber, onward, runBy, run, runBack}
 use Rattle.moves.specs.Runs as runs
 use Rattle.moves.proofs.Accepted.{accepted-wf}
 use Rattle.moves.proofs.Match.{Placed, fits-placed}
@@ -34,15 +33,16 @@ use Rattle.table.proofs.Tabled.{Tabled, tabled}
 use Rattle.fits.specs.Fits.{fitsIn}
 use Rattle.fits.proofs.FitsLaw.{fits-law}
 use Rattle.machine.specs.declared.Told.{Told}
-use Rattle.machine.specs.declared.Told.the-variants.{Done, Refused}
+use Rattle.machine.specs.declared.Told.the-variants.{Refused}
 use Rattle.machine.specs.declared.Ran.{Ran}
 use Rattle.machine.specs.Decide.{ruleOf}
 use Rattle.machine.specs.Walk.{callsIn, callsOf, Gone, gone, goOf}
-use Rattle.machine.specs.Whole.{toldBy, staying, Result, result, Runs, wentTo, checkedRun}
-use Rattle.machine.specs.Answers.{Before, program, size, place, Ready, StepSays, refused, stopped, arrived, toldOf, RunSays, ran}
+use Rattle.machine.specs.Whole.{staying, Result, result, Runs, wentTo, checkedRun}
+use Rattle.machine.specs.Answers.{Gives, numbered, Before, program, size, place, Ready, StepSays, refused, stopped, arrived, RunSays, ran}
 use Rattle.machine.proofs.Room.{room}
 use Rattle.machine.proofs.Sets.{Agrees}
 use Rattle.machine.proofs.Steps.{walked}
+use Rattle.machine.proofs.Giving.{gives-refused, by-gives}
 
 -- ---- the tables of an accepted file
 starting-is : (n : ℕ) (ls : List ℕ) → starting n ls ≡ startsFrom n ls
@@ -75,14 +75,6 @@ calls-are (i ∷ F) r =
 calls-held : (p : Place) → length (p .frames) ≤ 1104 → callsOf (held p .kinds) (held p .count) ≡ calls (p .frames)
 calls-held p h = rw (le-leb (length (p .frames)) 1104 h) (calls-are (p .frames) _)
 
-told-is : (s : Stop) → toldBy (stopNumber s) ≡ toldOf s
-told-is made = refl
-told-is (because atEnd) = refl
-told-is (because wrongValue) = refl
-told-is (because zeroDivisor) = refl
-told-is (because badIndex) = refl
-told-is (because tooDeep) = refl
-
 -- ---- a run forward
 module _ (f : List ℕ) (q : Held) (σ : Store) (n : ℕ) where
   abbrev Says-run : Ran → Store → Type 0
@@ -101,7 +93,7 @@ module _ (f : List ℕ) (q : Held) (σ : Store) (n : ℕ) where
         ∙ (ap (λ c. goOf (ruleOf f (tableOf f) (arraysAt f)) n (held p) c σ 0) (calls-held p room-p) ∙ walked A (tabled f t A) (agrees f t A) n p fit σ 0) in
         let z : 0 + run t n p σ .steps ≡ run t n p σ .steps = omega arith in
         ran (record { accepts = A; sized = e; holds = h; fits = fit })
-        (ap (λ (x : Gone). toldBy (x .went .reason)) g ∙ told-is (run t n p σ .stop))
+        (by-gives (ap (λ (x : Gone). x .went .reason) g))
         (ap (λ (x : Gone). x .went .steps) g ∙ z)
         (ap (λ (x : Gone). x .went .place) g)
         (ap (λ (x : Gone). x .store) g)
@@ -113,8 +105,8 @@ module _ (f : List ℕ) (q : Held) (σ : Store) (n : ℕ) where
         go : (b : Bool) → eqb (length σ) c ≡ b → (d : Bool) → Decides d ((p : Place) × ((q ≡ held p) × Fits t p))
             → let x = cond b (cond d (wentTo (goOf (ruleOf f (tableOf f) (arraysAt f)) n q (callsOf (q .kinds) (q .count)) σ 0)) (result (Refused 21 0) 0 q σ)) (result (Refused 20 0) 0 q σ) in Says-run (x .ran) (x .store)
         go true e true D = fitting (eqb-true _ _ e ∙ ec) (D .0) (D .1 .0) (D .1 .1)
-        go true e false D = refused (place A (eqb-true _ _ e ∙ ec) (λ p h k. D (p, (h, k)))) refl refl refl refl
-        go false e d D = refused (size A (λ h. eqb-false _ _ e (h ∙ sym ec))) refl refl refl refl
+        go true e false D = refused (place A (eqb-true _ _ e ∙ ec) (λ p h k. D (p, (h, k)))) (numbered {n = 21} (omega arith)) refl refl refl
+        go false e d D = refused (size A (λ h. eqb-false _ _ e (h ∙ sym ec))) (numbered {n = 20} (omega arith)) refl refl refl
 
   -- an accepted file, as the check answers it
   pub checked-says : (a : Checked) → Says f (given a) → (records p c : ℕ) → a ≡ Accepted records p c → (r : Ran) (τ : Store) → Runs (checkedRun f records c q σ n) r τ → Says-run r τ
@@ -124,12 +116,13 @@ module _ (f : List ℕ) (q : Held) (σ : Store) (n : ℕ) where
 
   pub refused-says : (a : Checked) → Says f (given a) → (m k : ℕ) → a ≡ RefusedFile m k → (r : Ran) → r ≡ staying m k q → Says-run r σ
   refused-says a s m k e r h =
-      refused (program (refused-of f a m k s e)) (ap (λ (r : Ran). r .told) h) (ap (λ (r : Ran). r .steps) h) (ap (λ (r : Ran). r .place) h) refl
+      let x = refused-of f a m k s e in
+      refused (program x) (gives-refused (fault-some f x) (ap (λ (r : Ran). r .told) h)) (ap (λ (r : Ran). r .steps) h) (ap (λ (r : Ran). r .place) h) refl
 
 -- ---- a run of one is a step
 module _ (move : Tree → Place → Store → Answer (Place × Store)) (f : List ℕ) (q : Held) (σ : Store) where
   one-step : (t : Tree) (p : Place) → Ready f q σ t p → (a : Answer (Place × Store)) → move t p σ ≡ a → (told : Told) (q′ : Held) (σ′ : Store)
-      → told ≡ toldOf (onward a (λ p σ. runBy (move t) 0 p σ) p σ .stop) → q′ ≡ held (onward a (λ p σ. runBy (move t) 0 p σ) p σ .place) → σ′ ≡ onward a (λ p σ. runBy (move t) 0 p σ) p σ .store
+      → Gives told (stopNumber (onward a (λ p σ. runBy (move t) 0 p σ) p σ .stop)) 0 → q′ ≡ held (onward a (λ p σ. runBy (move t) 0 p σ) p σ .place) → σ′ ≡ onward a (λ p σ. runBy (move t) 0 p σ) p σ .store
       → StepSays move f q σ told q′ σ′
   unfolding runBy
   one-step t p R (no r) e told q′ σ′ a b c = stopped R e a (b ∙ sym (R .holds)) c
@@ -177,6 +170,6 @@ module _ (f : List ℕ) (q : Held) (σ : Store) where
   back-says n told steps q′ q″ σ′ (ran {t} {p} R a b c d) k =
       let z = back-is t n p σ in
       ran (record { accepts = R .accepts; sized = R .sized; holds = turned-holds p (R .holds); fits = turn-fits t (accepted-wf (R .accepts)) p (R .fits) })
-      (a ∙ ap (λ (r : runs.Ran). toldOf (r .stop)) (sym z)) (b ∙ ap (λ (r : runs.Ran). r .steps) (sym z))
+      (subst (λ (r : runs.Ran). Gives told (stopNumber (r .stop)) 0) (sym z) a) (b ∙ ap (λ (r : runs.Ran). r .steps) (sym z))
       (k ∙ (ap turnedOf c ∙ (turned-held (run t n p σ .place) ∙ ap (λ (r : runs.Ran). held (r .place)) (sym z))))
       (d ∙ ap (λ (r : runs.Ran). r .store) (sym z))

@@ -4,5 +4,4 @@ pub mod Places
 pub mod Stores
 pub mod Step
 pub mod Runs
-pub mod Stops
 pub mod Reasons

@@ -4,13 +4,17 @@ use mathlib.Core.Logic.{_⊎_}
 use mathlib.Core.Path.{_≡_}
 use Rattle.order.specs.Trees.{Tree}
 use Rattle.moves.specs.Places.{Place}
-use Rattle.moves.specs.Stores.{Reason, Answer, ok, no, Store}
+use Rattle.moves.specs.Stores.{Reason, number, Answer, ok, no, Store}
 use Rattle.moves.specs.Step.{step, stepBack}
 
 -- Why a run stopped: all n steps were made, or a reason. "the reason, 0 where all n were made"
 pub data Stop : Type 0 where
   made : Stop
   because : Reason → Stop
+
+abbrev pub stopNumber : Stop → ℕ
+stopNumber made = 0
+stopNumber (because r) = number r
 
 -- "answers the steps made, the last place and the reason ..; the store is the one at that place"
 pub record Ran : Type 0 where

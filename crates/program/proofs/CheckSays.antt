@@ -3,11 +3,12 @@
 --     says-only         so the code's answer is checkOf f, and determined
 --     accepted-tree     accepted exactly if the file is that of a tree, and its counts are the tree's
 --     accepts-unique    that tree is unique
+--     fault-some        a refused file's number is not 0
 use mathlib.Core.Path.{_≡_, refl, sym, ap, _∙_, subst}
 use mathlib.Core.List.{List, [], _∷_, _++_, map}
 use mathlib.Core.Logic.{_↔_}
 use mathlib.Core.Bool.{Bool, true, false, cond}
-use Prim.Native.Nat.{ℕ, _+_, _^_, _≤_, _<_}
+use Prim.Native.Nat.{ℕ, zero, suc, _+_, _^_, _≤_, _<_}
 use native.Mathlib.Nat.{zero-add}
 use native.Mathlib.Omega.{arith}
 use borrow.Author.Tests.{lt-ltb, le-ltb, ltb-true, ltb-false}
@@ -147,6 +148,13 @@ module _ (f : List ℕ) where
   some-record g (not-there rs t R O n) e = absurd (omega arith)
   some-record g (own-name rs t R O A n) e = absurd (omega arith)
   some-record g (accepted t A) e = omega arith
+
+  pub fault-some : {n k : ℕ} → Says f (fault n k) → 0 < n
+  fault-some {n} {k} s = go n (some-record (fault n k) s)
+    where
+      go : (n : ℕ) → (n ≡ 0 → 0 < 0) → 0 < n
+      go zero h = h refl
+      go (suc n) h = omega arith
 
   -- the tree of an accepted file
   pub record TreeOf (r p c : ℕ) : Type 0 where

@@ -20,8 +20,7 @@ use Rattle.program.proofs.Few.{cells-few}
 use Rattle.moves.specs.Places.{down}
 use Rattle.moves.specs.Stores.{Store}
 use Rattle.moves.specs.Step.{start}
-use Rattle.moves.specs.Runs.{run as running, Stop, made, because}
-use Rattle.moves.specs.Stops.{stopNumber}
+use Rattle.moves.specs.Runs.{run as running, Stop, made, because, stopNumber}
 use Rattle.moves.specs.Runs as runs
 use Rattle.moves.proofs.Theorems.{start-fits}
 use Rattle.machine.specs.declared.Told.{Told}

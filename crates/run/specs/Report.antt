@@ -9,8 +9,7 @@ use Rattle.order.specs.Trees.{Tree, cells}
 use Rattle.program.specs.Says.{fault, counts, Accepts, Says}
 use Rattle.moves.specs.Places.{down}
 use Rattle.moves.specs.Step.{start}
-use Rattle.moves.specs.Runs.{Ran, run}
-use Rattle.moves.specs.Stops.{stopNumber}
+use Rattle.moves.specs.Runs.{Ran, stopNumber, run}
 use Rattle.machine.specs.declared.Told.{Told}
 use Rattle.machine.specs.declared.Told.the-variants.{Done, Refused}
 use Rattle.print.specs.Lines.{putAll, afterAll, refusedLine, stepsLine, atLine, cellLines}

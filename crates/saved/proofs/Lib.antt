@@ -1,5 +1,6 @@
 -- The laws of `saved`.
 pub mod Counts
+pub mod Giving
 pub mod ReadCases
 pub mod SaveCases
 pub mod OneAnswer

@@ -1,6 +1,6 @@
 -- Answers says one answer, one place or count, and one store or buffer: `read-one`, `save-one`. Assumes nothing.
 use Prim.Native.Nat.{ℕ, _≤_, _<_}
-use mathlib.Core.Path.{_≡_, refl, sym, ap, ap₂, _∙_, subst}
+use mathlib.Core.Path.{_≡_, refl, sym, ap, _∙_, subst}
 use mathlib.Core.List.{List, _++_}
 use lib.ListN.{length, drop}
 use native.Mathlib.Omega.{arith}
@@ -14,26 +14,18 @@ use Rattle.program.specs.Says.{Accepts}
 use Rattle.program.proofs.CheckSays.{accepts-unique}
 use Rattle.moves.specs.Places.{Fits}
 use Rattle.moves.specs.Stores.{Store}
-use Rattle.moves.specs.Runs.{made}
-use Rattle.moves.specs.Runs as runs
 use Rattle.session.specs.Session.{encode, Reads}
 use Rattle.session.proofs.Reading.{encode-injective}
 use Rattle.machine.specs.declared.Told.{Told}
-use Rattle.machine.specs.declared.Told.the-variants.{Done, Refused}
 use Rattle.machine.specs.Answers as machine
-use Rattle.machine.proofs.OneAnswer.{no-way, not-both, faults-one, run-one}
+use Rattle.machine.proofs.Giving.{gives-one}
+use Rattle.machine.proofs.OneAnswer.{no-way, not-both, faults-one, before-ready}
+use Rattle.machine.proofs.OneAnswer as machine-one
 use Rattle.saved.specs.Answers.{ReadBefore, program, malformed, size, place, ReadSays, refused, found, SaveSays, short, saved}
-
-pub not-done : {X : Type 0} {n k : ℕ} → Done ≡ Refused n k → X
-not-done e = no-way (let z : _≡_ {A = ℕ} 0 1 = cc in omega arith)
 
 -- a file says one place and one store
 pub reads-one : {s : List ℕ} {p p′ : Place} {zs zs′ : Store} → Reads s p zs → Reads s p′ zs′ → (p ≡ p′) × (zs ≡ zs′)
 reads-one {p = p} {p′} {zs} {zs′} r r′ = encode-injective p p′ zs zs′ (r .fit) (r′ .fit) (sym (r .file) ∙ r′ .file)
-
--- a run that makes no step
-abbrev stay : Tree → ℕ → Place → Store → runs.Ran
-stay t n p σ = record { steps = 0; place = p; store = σ; stop = made }
 
 module _ {f : List ℕ} (B : AllBytes f) where
   -- ---- reading
@@ -73,24 +65,15 @@ module _ {f : List ℕ} (B : AllBytes f) where
 
     pub read-one : {a a′ : Told} {q q′ : Held} {τ τ′ : Store} → ReadSays f s σ a q τ → ReadSays f s σ a′ q′ τ′ → (a ≡ a′) × (q ≡ q′) × (τ ≡ τ′)
     read-one (refused b e₁ e₂ e₃) (refused b′ e₁′ e₂′ e₃′) =
-        let z = before-one b b′ in (e₁ ∙ (ap₂ Refused (z .0) (z .1) ∙ sym e₁′), e₂ ∙ sym e₂′, e₃ ∙ sym e₃′)
+        let z = before-one b b′ in (gives-one e₁ e₁′ (z .0) (z .1), e₂ ∙ sym e₂′, e₃ ∙ sym e₃′)
     read-one (refused b e₁ e₂ e₃) (found r R l e) = no-way (before-found b r R l)
     read-one (found r R l e) (refused b e₁ e₂ e₃) = no-way (before-found b r R l)
-    read-one (found r R l e) (found r′ R′ l′ e′) = let z = reads-one r r′ in (e ∙ sym e′, R .holds ∙ ap held (z .0) ∙ sym (R′ .holds), z .1)
+    read-one (found r R l e) (found r′ R′ l′ e′) = let z = reads-one r r′ in (gives-one e e′ refl refl, R .holds ∙ ap held (z .0) ∙ sym (R′ .holds), z .1)
 
-  -- ---- saving: `run-one` says one refusal of a file, place and store, or none, and one place
+  -- ---- saving
   module _ {q : Held} {σ : Store} where
-    stays : {m k : ℕ} → machine.Before f q σ m k → machine.RunSays stay f q σ 0 (Refused m k) 0 q σ
-    stays b = machine.refused b refl refl refl refl
-
-    goes : {t : Tree} {p : Place} → machine.Ready f q σ t p → machine.RunSays stay f q σ 0 Done 0 (held p) σ
-    goes R = machine.ran R refl refl refl refl
-
-    refusal-one : {m k m′ k′ : ℕ} → machine.Before f q σ m k → machine.Before f q σ m′ k′ → Refused m k ≡ Refused m′ k′
-    refusal-one b b′ = run-one B stay 0 (stays b) (stays b′) .0
-
     never-both : {X : Type 0} {m k : ℕ} {t : Tree} {p : Place} → machine.Before f q σ m k → machine.Ready f q σ t p → X
-    never-both b R = not-done (run-one B stay 0 (goes R) (stays b) .0)
+    never-both b R = no-way (before-ready B b R)
 
     pub place-one : {t t′ : Tree} {p p′ : Place} → machine.Ready f q σ t p → machine.Ready f q σ t′ p′ → p ≡ p′
     place-one {p = p} {p′} R R′ = held-injective p p′ (sym (R .holds) ∙ R′ .holds)
@@ -101,14 +84,14 @@ module _ {f : List ℕ} (B : AllBytes f) where
 
     module _ {buf : List ℕ} where
       pub save-one : {a a′ : Told} {n n′ : ℕ} {x x′ : List ℕ} → SaveSays f q σ buf a n x → SaveSays f q σ buf a′ n′ x′ → (a ≡ a′) × (n ≡ n′) × (x ≡ x′)
-      save-one (refused b e₁ e₂ e₃) (refused b′ e₁′ e₂′ e₃′) = (e₁ ∙ (refusal-one b b′ ∙ sym e₁′), e₂ ∙ sym e₂′, e₃ ∙ sym e₃′)
+      save-one (refused b e₁ e₂ e₃) (refused b′ e₁′ e₂′ e₃′) = let z = machine-one.before-one B b b′ in (gives-one e₁ e₁′ (z .0) (z .1), e₂ ∙ sym e₂′, e₃ ∙ sym e₃′)
       save-one (refused b e₁ e₂ e₃) (short R h e₁′ e₂′ e₃′) = never-both b R
       save-one (refused b e₁ e₂ e₃) (saved R h e₁′ e₂′ e₃′) = never-both b R
       save-one (short R h e₁ e₂ e₃) (refused b e₁′ e₂′ e₃′) = never-both b R
-      save-one (short R h e₁ e₂ e₃) (short R′ h′ e₁′ e₂′ e₃′) = (e₁ ∙ sym e₁′, e₂ ∙ sym e₂′, e₃ ∙ sym e₃′)
+      save-one (short R h e₁ e₂ e₃) (short R′ h′ e₁′ e₂′ e₃′) = (gives-one e₁ e₁′ refl refl, e₂ ∙ sym e₂′, e₃ ∙ sym e₃′)
       save-one (short R h e₁ e₂ e₃) (saved R′ h′ e₁′ e₂′ e₃′) = room-one buf R h R′ h′
       save-one (saved R h e₁ e₂ e₃) (refused b e₁′ e₂′ e₃′) = never-both b R
       save-one (saved R h e₁ e₂ e₃) (short R′ h′ e₁′ e₂′ e₃′) = room-one buf R′ h′ R h
       save-one (saved R h e₁ e₂ e₃) (saved R′ h′ e₁′ e₂′ e₃′) =
           let z = place-one R R′ in
-          (e₁ ∙ sym e₁′, e₂ ∙ (ap (λ p. length (encode p σ)) z ∙ sym e₂′), e₃ ∙ (ap (λ p. encode p σ ++ drop (length (encode p σ)) buf) z ∙ sym e₃′))
+          (gives-one e₁ e₁′ refl refl, e₂ ∙ (ap (λ p. length (encode p σ)) z ∙ sym e₂′), e₃ ∙ (ap (λ p. encode p σ ++ drop (length (encode p σ)) buf) z ∙ sym e₃′))

@@ -5,7 +5,7 @@
 --     read-then-saved    what is read and saved again is the same bytes
 --     saved-beyond       the bytes after the written ones keep their values; where a save is refused, all of them
 use Prim.Native.Nat.{ℕ, _≤_, _<_}
-use mathlib.Core.Path.{_≡_, refl, sym, ap, _∙_, subst}
+use mathlib.Core.Path.{_≡_, sym, ap, _∙_, subst}
 use mathlib.Core.List.{List, _++_}
 use lib.ListN.{length, take, drop}
 use lib.Seq.{take-at, drop-at}
@@ -24,9 +24,12 @@ use Rattle.session.proofs.Round.{Numbers, labels-in}
 use Rattle.machine.specs.declared.Told.{Told}
 use Rattle.machine.specs.declared.Told.the-variants.{Done}
 use Rattle.machine.specs.Answers as machine
+use Rattle.machine.specs.Answers.{Gives, done}
+use Rattle.machine.proofs.Giving.{gives-done, not-none, before-some}
 use Rattle.saved.specs.Answers.{ReadSays, refused, found, SaveSays, short, saved}
 use Rattle.program.proofs.Few.{cells-few}
-use Rattle.saved.proofs.OneAnswer.{not-done, read-one, save-one}
+use Rattle.saved.proofs.Giving.{read-some}
+use Rattle.saved.proofs.OneAnswer.{read-one, save-one}
 
 -- a place and a store that a program may have fit a file; the struct's numbers are u16 and the cells i32, as their types say
 ready-fit : {f : List ℕ} {q : Held} {σ : Store} {t : Tree} {p : Place} → Numbers q → CellsFit σ → machine.Ready f q σ t p → Fit p σ
@@ -48,38 +51,38 @@ record Wrote (f : List ℕ) (q : Held) (σ : Store) (bytes : List ℕ) : Type 0 
   ready : machine.Ready f q σ t p
   is : bytes ≡ encode p σ
 
-wrote : {f : List ℕ} {q : Held} {σ : Store} {buf : List ℕ} {n : ℕ} {out : List ℕ} → SaveSays f q σ buf Done n out → Wrote f q σ (take n out)
-wrote (refused b e₁ e₂ e₃) = not-done e₁
-wrote (short R h e₁ e₂ e₃) = not-done e₁
-wrote {σ = σ} {n = n} (saved {t} {p} R h e₁ e₂ e₃) =
+wrote : {f : List ℕ} {q : Held} {σ : Store} {buf : List ℕ} {a : Told} {n : ℕ} {out : List ℕ} → SaveSays f q σ buf a n out → Gives a 0 0 → Wrote f q σ (take n out)
+wrote (refused b e₁ e₂ e₃) g = not-none (before-some b) e₁ g
+wrote (short R h e₁ e₂ e₃) g = not-none {n = 23} (omega arith) e₁ g
+wrote {σ = σ} {n = n} (saved {t} {p} R h e₁ e₂ e₃) g =
     record { t = t; p = p; ready = R; is = ap (take n) e₃ ∙ take-at (encode p σ) _ n (sym e₂) }
 
 module _ {f : List ℕ} (B : AllBytes f) {q : Held} {σ : Store} where
-  pub saved-reads-back : {buf out : List ℕ} {n : ℕ} {st st′ : Store} {a : Told} {q′ : Held} → Numbers q → CellsFit σ → SaveSays f q σ buf Done n out
-      → ReadSays f (take n out) st a q′ st′ → length st ≡ length σ → (a ≡ Done) × (q′ ≡ q) × (st′ ≡ σ)
-  saved-reads-back {out = out} {n} {st} nums vals x y l =
-      let w = wrote x in
-      let z : ReadSays f (take n out) st Done q σ = found (record { fit = ready-fit nums vals (w .ready); file = w .is }) (w .ready) (l ∙ w .ready .sized) refl in
-      read-one B y z
+  pub saved-reads-back : {buf out : List ℕ} {n : ℕ} {st st′ : Store} {a a′ : Told} {q′ : Held} → Numbers q → CellsFit σ → SaveSays f q σ buf a n out → Gives a 0 0
+      → ReadSays f (take n out) st a′ q′ st′ → length st ≡ length σ → Gives a′ 0 0 × (q′ ≡ q) × (st′ ≡ σ)
+  saved-reads-back {out = out} {n} {st} nums vals x g y l =
+      let w = wrote x g in
+      let z : ReadSays f (take n out) st Done q σ = found (record { fit = ready-fit nums vals (w .ready); file = w .is }) (w .ready) (l ∙ w .ready .sized) done in
+      let u = read-one B y z in (gives-done (u .0), u .1, u .2)
 
-  pub read-then-saved : {s buf out : List ℕ} {st : Store} {a : Told} {n : ℕ} → ReadSays f s st Done q σ → SaveSays f q σ buf a n out → length s ≤ length buf
-      → (a ≡ Done) × (n ≡ length s) × (out ≡ s ++ drop (length s) buf)
-  read-then-saved (refused b e₁ e₂ e₃) y h = not-done e₁
-  read-then-saved {s} {buf} (found {t} {p} r R l e) y h =
+  pub read-then-saved : {s buf out : List ℕ} {st : Store} {a a′ : Told} {n : ℕ} → ReadSays f s st a q σ → Gives a 0 0 → SaveSays f q σ buf a′ n out → length s ≤ length buf
+      → Gives a′ 0 0 × (n ≡ length s) × (out ≡ s ++ drop (length s) buf)
+  read-then-saved (refused b e₁ e₂ e₃) g y h = not-none (read-some b) e₁ g
+  read-then-saved {s} {buf} (found {t} {p} r R l e) g y h =
       let z : SaveSays f q σ buf Done (length s) (s ++ drop (length s) buf) =
-      saved R (subst (λ (x : List ℕ). length x ≤ length buf) (r .file) h) refl (ap length (r .file)) (ap (λ (x : List ℕ). x ++ drop (length x) buf) (r .file)) in
-      save-one B y z
+      saved R (subst (λ (x : List ℕ). length x ≤ length buf) (r .file) h) done (ap length (r .file)) (ap (λ (x : List ℕ). x ++ drop (length x) buf) (r .file)) in
+      let u = save-one B y z in (gives-done (u .0), u .1, u .2)
 
-pub one-file : {f : List ℕ} {q : Held} {σ : Store} {s s′ : List ℕ} {st st′ : Store} → ReadSays f s st Done q σ → ReadSays f s′ st′ Done q σ → s ≡ s′
-one-file (refused b e₁ e₂ e₃) y = not-done e₁
-one-file (found r R l e) (refused b e₁ e₂ e₃) = not-done e₁
-one-file {σ = σ} (found {p = p} r R l e) (found {p = p′} r′ R′ l′ e′) =
+pub one-file : {f : List ℕ} {q : Held} {σ : Store} {s s′ : List ℕ} {st st′ : Store} {a a′ : Told} → ReadSays f s st a q σ → Gives a 0 0 → ReadSays f s′ st′ a′ q σ → Gives a′ 0 0 → s ≡ s′
+one-file (refused b e₁ e₂ e₃) g y g′ = not-none (read-some b) e₁ g
+one-file (found r R l e) g (refused b e₁ e₂ e₃) g′ = not-none (read-some b) e₁ g′
+one-file {σ = σ} (found {p = p} r R l e) g (found {p = p′} r′ R′ l′ e′) g′ =
     let z : p ≡ p′ = held-injective p p′ (sym (R .holds) ∙ R′ .holds) in r .file ∙ ap (λ p. encode p σ) z ∙ sym (r′ .file)
 
-pub files-differ : {f : List ℕ} {q q′ : Held} {σ σ′ : Store} {buf buf′ out out′ : List ℕ} {n n′ : ℕ} → Numbers q → Numbers q′ → CellsFit σ → CellsFit σ′
-    → SaveSays f q σ buf Done n out → SaveSays f q′ σ′ buf′ Done n′ out′ → take n out ≡ take n′ out′ → (q ≡ q′) × (σ ≡ σ′)
-files-differ {σ = σ} {σ′} nums nums′ vals vals′ x y e =
-    let w = wrote x in let w′ = wrote y in
+pub files-differ : {f : List ℕ} {q q′ : Held} {σ σ′ : Store} {buf buf′ out out′ : List ℕ} {n n′ : ℕ} {a a′ : Told} → Numbers q → Numbers q′ → CellsFit σ → CellsFit σ′
+    → SaveSays f q σ buf a n out → Gives a 0 0 → SaveSays f q′ σ′ buf′ a′ n′ out′ → Gives a′ 0 0 → take n out ≡ take n′ out′ → (q ≡ q′) × (σ ≡ σ′)
+files-differ {σ = σ} {σ′} nums nums′ vals vals′ x g y g′ e =
+    let w = wrote x g in let w′ = wrote y g′ in
     let z = encode-injective (w .p) (w′ .p) σ σ′ (ready-fit nums vals (w .ready)) (ready-fit nums′ vals′ (w′ .ready)) (sym (w .is) ∙ e ∙ w′ .is) in
     (w .ready .holds ∙ ap held (z .0) ∙ sym (w′ .ready .holds), z .1)
 

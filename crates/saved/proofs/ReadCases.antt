@@ -16,7 +16,7 @@ use Rattle.order.specs.Trees.{cells}
 use Rattle.program.specs.Says.{given, Says}
 use Rattle.program.specs.declared.Checked.{Checked}
 use Rattle.program.specs.declared.Checked.the-variants.{Refused as RefusedFile}
-use Rattle.program.proofs.CheckSays.{TreeOf, refused-of}
+use Rattle.program.proofs.CheckSays.{TreeOf, refused-of, fault-some}
 use Rattle.moves.specs.Places.{Fits}
 use Rattle.moves.specs.Stores.{Store}
 use Rattle.table.specs.Table.{tableOf}
@@ -26,11 +26,14 @@ use Rattle.session.specs.Reader.{Reading, malformed, found, reading}
 use Rattle.session.specs.Answers.{isFound, placeOf, cellsOf, filled}
 use Rattle.session.proofs.Reading.{reading-sound, malformed-reads}
 use Rattle.machine.specs.declared.Told.the-variants.{Done}
+use Rattle.machine.specs.Answers.{done}
+use Rattle.machine.proofs.Giving.{gives-refused}
 use Rattle.saved.specs.declared.Found.{Found}
 use Rattle.saved.specs.Answers as answers
 use Rattle.saved.specs.Answers.{ReadSays}
 use Rattle.saved.specs.Whole.{Counted, refusing}
 use Rattle.saved.proofs.Counts.{tree-of, fits-asked}
+use Rattle.saved.proofs.Giving.{read-some}
 
 -- what a file that is no 22 holds
 record Holds (s : List ℕ) : Type 0 where
@@ -57,14 +60,15 @@ no-file s b e h = go (reading s) refl b e h
 pub read-program : (f s : List ℕ) (σ : Store) (a : Checked) → Says f (given a) → (n k : ℕ) → a ≡ RefusedFile n k → (r : Found) → r ≡ refusing n k
     → ReadSays f s σ (r .told) (r .place) σ
 read-program f s σ a x n k e r h =
-    answers.refused (answers.program (refused-of f a n k x e)) (ap (λ (r : Found). r .told) h) (ap (λ (r : Found). r .place) h) refl
+    let x = refused-of f a n k x e in
+    answers.refused (answers.program x) (gives-refused (fault-some f x) (ap (λ (r : Found). r .told) h)) (ap (λ (r : Found). r .place) h) refl
 
 module _ (f s : List ℕ) (σ : Store) (records c : ℕ) (K : Counted f records c) (C : AllBytes s) where
   abbrev T : TreeOf f records (K .0) c
   T = tree-of f records c K
 
   refuse : (n : ℕ) (r : Found) → r ≡ refusing n 0 → answers.ReadBefore f s σ n 0 → ReadSays f s σ (r .told) (r .place) σ
-  refuse n r h b = answers.refused b (ap (λ (r : Found). r .told) h) (ap (λ (r : Found). r .place) h) refl
+  refuse n r h b = answers.refused b (gives-refused (read-some b) (ap (λ (r : Found). r .told) h)) (ap (λ (r : Found). r .place) h) refl
 
   module _ (b : Bool) (eb : b ≡ isFound (reading s)) where
     pub read-22 : (r : Found) → not b ≡ true → r ≡ refusing 22 0 → ReadSays f s σ (r .told) (r .place) σ
@@ -108,4 +112,4 @@ module _ (f s : List ℕ) (σ : Store) (records c : ℕ) (K : Counted f records 
                 let left : τ ≡ S .zs = e ∙ ap (λ (x : Reading). filled x σ) (S .is) ∙ rw (eq-eqb _ _ (sized ∙ sym (T .cells-are′) ∙ sym l)) in
                 answers.found (subst (Reads s (S .p)) (sym left) reads)
                 (record { accepts = T .accepts; sized = ap length left ∙ sized; holds = place-is; fits = subst (Fits (T .tree)) ep (y .1 .1) })
-                (l ∙ T .cells-are′) refl
+                (l ∙ T .cells-are′) done

@@ -15,7 +15,7 @@ use Rattle.place.proofs.Held.{yes, no}
 use Rattle.program.specs.Says.{given, Says}
 use Rattle.program.specs.declared.Checked.{Checked}
 use Rattle.program.specs.declared.Checked.the-variants.{Refused as RefusedFile}
-use Rattle.program.proofs.CheckSays.{TreeOf, refused-of}
+use Rattle.program.proofs.CheckSays.{TreeOf, refused-of, fault-some}
 use Rattle.program.proofs.Few.{cells-few}
 use Rattle.moves.specs.Places.{Fits}
 use Rattle.moves.specs.Stores.{Store}
@@ -28,6 +28,7 @@ use Rattle.session.proofs.Frames.{length-encode}
 use Rattle.session.proofs.Round.{saved-held, saved-held-short}
 use Rattle.machine.specs.declared.Told.the-variants.{Done}
 use Rattle.machine.specs.Answers as machine
+use Rattle.machine.proofs.Giving.{gives-refused, before-some}
 use Rattle.saved.specs.declared.Saved.{Saved}
 use Rattle.saved.specs.Answers as answers
 use Rattle.saved.specs.Answers.{SaveSays}
@@ -37,14 +38,15 @@ use Rattle.saved.proofs.Counts.{tree-of, fits-asked}
 pub save-program : (f : List ℕ) (q : Held) (σ : Store) (buf : List ℕ) (a : Checked) → Says f (given a) → (n k : ℕ) → a ≡ RefusedFile n k → (r : Saved) → r ≡ unsaved n k
     → SaveSays f q σ buf (r .told) (r .written) buf
 save-program f q σ buf a x n k e r h =
-    answers.refused (machine.program (refused-of f a n k x e)) (ap (λ (r : Saved). r .told) h) (ap (λ (r : Saved). r .written) h) refl
+    let s = refused-of f a n k x e in
+    answers.refused (machine.program s) (gives-refused (fault-some f s) (ap (λ (r : Saved). r .told) h)) (ap (λ (r : Saved). r .written) h) refl
 
 module _ (f : List ℕ) (q : Held) (σ : Store) (buf : List ℕ) (records c : ℕ) (K : Counted f records c) where
   abbrev T : TreeOf f records (K .0) c
   T = tree-of f records c K
 
   refuse : (n : ℕ) (r : Saved) → r ≡ unsaved n 0 → machine.Before f q σ n 0 → SaveSays f q σ buf (r .told) (r .written) buf
-  refuse n r h b = answers.refused b (ap (λ (r : Saved). r .told) h) (ap (λ (r : Saved). r .written) h) refl
+  refuse n r h b = answers.refused b (gives-refused (before-some b) (ap (λ (r : Saved). r .told) h)) (ap (λ (r : Saved). r .written) h) refl
 
   pub save-20 : (r : Saved) → (length σ ≡ c → ⊥) → r ≡ unsaved 20 0 → SaveSays f q σ buf (r .told) (r .written) buf
   save-20 r k e = refuse 20 r e (machine.size (T .accepts) (λ y. k (y ∙ sym (T .cells-are′))))
@@ -85,12 +87,12 @@ module _ (f : List ℕ) (q : Held) (σ : Store) (buf : List ℕ) (records c : �
       save-23 r k e =
           let h = no-room _ refl k in
           let none : savedOf q σ buf ≡ [] = ap (λ q. savedOf q σ buf) (ready .holds) ∙ saved-held-short p σ buf few some h in
-          answers.short ready h (ap (λ (r : Saved). r .told) e) (ap (λ (r : Saved). r .written) e) (W .1 ∙ ap (sets buf 0) none)
+          answers.short ready h (gives-refused (omega arith) (ap (λ (r : Saved). r .told) e)) (ap (λ (r : Saved). r .written) e) (W .1 ∙ ap (sets buf 0) none)
 
       pub save-done : (n ≡ 0 → ⊥) → SaveSays f q σ buf Done n out
       save-done k =
           let h = room _ refl k in
           let z : 0 + length (encode p σ) ≤ length buf = omega (arith, h) in
           let y : 0 + length (encode p σ) ≡ length (encode p σ) = omega arith in
-          answers.saved ready h refl (W .0 ∙ ap length (written h))
+          answers.saved ready h machine.done (W .0 ∙ ap length (written h))
           (W .1 ∙ ap (sets buf 0) (written h) ∙ sets-eq (encode p σ) buf 0 z ∙ ap (λ (k : ℕ). encode p σ ++ drop k buf) y)

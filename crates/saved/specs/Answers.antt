@@ -11,8 +11,7 @@ use Rattle.moves.specs.Places.{Place, Fits}
 use Rattle.moves.specs.Stores.{Store}
 use Rattle.session.specs.Session.{encode, Reads}
 use Rattle.machine.specs.declared.Told.{Told}
-use Rattle.machine.specs.declared.Told.the-variants.{Done, Refused}
-use Rattle.machine.specs.Answers.{Before, Ready}
+use Rattle.machine.specs.Answers.{Gives, Before, Ready}
 
 -- "Session .. calls check the program first, then 22 (reading), 20, 21": the number, and the record. The bytes s are malformed where they
 -- are the file of no place and store; 20 is asked of the cells in the file and of the store σ that is lent for them.
@@ -24,13 +23,13 @@ pub data ReadBefore (f s : List ℕ) (σ : Store) : ℕ → ℕ → Type 0 where
 
 -- "A refused reading returns no place and leaves the lent store untouched." Else the struct holds the place of the file and the store its cells.
 pub data ReadSays (f s : List ℕ) (σ : Store) (told : Told) (q : Held) (σ′ : Store) : Type 0 where
-  refused : {n k : ℕ} → ReadBefore f s σ n k → told ≡ Refused n k → q ≡ blankOf → σ′ ≡ σ → ReadSays f s σ told q σ′
-  found : {t : Tree} {p : Place} → Reads s p σ′ → Ready f q σ′ t p → length σ ≡ cells t → told ≡ Done → ReadSays f s σ told q σ′
+  refused : {n k : ℕ} → ReadBefore f s σ n k → Gives told n k → q ≡ blankOf → σ′ ≡ σ → ReadSays f s σ told q σ′
+  found : {t : Tree} {p : Place} → Reads s p σ′ → Ready f q σ′ t p → length σ ≡ cells t → Gives told 0 0 → ReadSays f s σ told q σ′
 
 -- "then .. 20, 21, 23 (saving)"; "A save answers the bytes written, 0 if refused."; "Bytes of the lent buffer after the written ones keep their values."
 pub data SaveSays (f : List ℕ) (q : Held) (σ : Store) (buf : List ℕ) (told : Told) (written : ℕ) (buf′ : List ℕ) : Type 0 where
-  refused : {n k : ℕ} → Before f q σ n k → told ≡ Refused n k → written ≡ 0 → buf′ ≡ buf → SaveSays f q σ buf told written buf′
-  short : {t : Tree} {p : Place} → Ready f q σ t p → length buf < length (encode p σ) → told ≡ Refused 23 0 → written ≡ 0 → buf′ ≡ buf
+  refused : {n k : ℕ} → Before f q σ n k → Gives told n k → written ≡ 0 → buf′ ≡ buf → SaveSays f q σ buf told written buf′
+  short : {t : Tree} {p : Place} → Ready f q σ t p → length buf < length (encode p σ) → Gives told 23 0 → written ≡ 0 → buf′ ≡ buf
       → SaveSays f q σ buf told written buf′
-  saved : {t : Tree} {p : Place} → Ready f q σ t p → length (encode p σ) ≤ length buf → told ≡ Done → written ≡ length (encode p σ)
+  saved : {t : Tree} {p : Place} → Ready f q σ t p → length (encode p σ) ≤ length buf → Gives told 0 0 → written ≡ length (encode p σ)
       → buf′ ≡ encode p σ ++ drop (length (encode p σ)) buf → SaveSays f q σ buf told written buf′
