@@ -74,7 +74,7 @@ pub other-is : (d : Dir) → otherOf (dirNumber d) ≡ dirNumber (opp d)
 other-is down = refl
 other-is up = refl
 
-module _ {f : List ℕ} {t : Tree} (A : Accepts f t) {tab : List ℕ} (T : Tabled t f tab) {arr : List ℕ} (G : Agrees t arr) where
+module _ {f : List ℕ} {t : Tree} (A : Accepts f t) {tab : List ℕ} (T : Tabled t f tab) {bytes arr : List ℕ} (G : Agrees t f bytes arr) where
   abbrev P : Prog
   P = prog t
 
@@ -82,7 +82,7 @@ module _ {f : List ℕ} {t : Tree} (A : Accepts f t) {tab : List ℕ} (T : Table
   frames g cs = P .encl g ++ stack P cs
 
   abbrev Does : (g : ℕ) (d : Dir) (cs : List ℕ) (b : ℕ) → Store → Answer (Cut × Store) → Type 0
-  Does g d cs b σ a = Fate P (frames g cs) σ (ruleOf f tab arr (spotAt (frames g cs) d cs b) σ) a
+  Does g d cs b σ a = Fate P (frames g cs) σ (ruleOf bytes tab arr (spotAt (frames g cs) d cs b) σ) a
 
   few-procs : length (procedures t) ≤ 64
   unfolding recordsOf begins kind

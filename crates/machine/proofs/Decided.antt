@@ -38,7 +38,7 @@ use Rattle.machine.specs.declared.decide.Move.{Move}
 use Rattle.machine.specs.Decide.{lookIn, otherOf, alongOf, truthOf, refusedOf, keptOf, pushedOf, poppedOf, changedOf, headIn, middleIn, tailIn, chosenOf, closedOf, againOf, openedOf, repeatedOf, testedOf, assignedOf, Ruled, ruled, Rules, afterSet, ruleOf}
 use Rattle.machine.specs.Sets.{Leaves, setAt}
 use Rattle.machine.proofs.DecideCases.{rule-set, rule-skip, rule-call, rule-uncall, rule-return, rule-test}
-use Rattle.machine.proofs.Labels.{small, inside, read-at, near, offset-is, along-is}
+use Rattle.machine.proofs.Labels.{small, inside, near, offset-is, along-is}
 use Rattle.machine.proofs.Landing.{topKind, topLabel, spotAt, again-is, Fate, keeps, pushes, pops, changes}
 use Rattle.machine.proofs.Sets.{Agrees, worth-is, set-is}
 
@@ -48,7 +48,7 @@ clash p q = absurd (let z : _≡_ {A = ℕ} 0 1 = cc in let y : ⊥ = omega arit
 pub fate-of : (P : Prog) (fs : List Frame) (σ : Store) (x : Ruled) (m : Move) (τ : Store) (a : Answer (Cut × Store)) → Rules x m τ → Fate P fs σ (ruled m τ) a → Fate P fs σ x a
 fate-of P fs σ x m τ a r h = let e : ruled m τ ≡ x = λ i. record { move = r .made i; store = r .left i } in subst (λ x. Fate P fs σ x a) e h
 
-module _ {f : List ℕ} {t : Tree} (A : Accepts f t) {tab : List ℕ} (T : Tabled t f tab) {arr : List ℕ} (G : Agrees t arr) where
+module _ {f : List ℕ} {t : Tree} (A : Accepts f t) {tab : List ℕ} (T : Tabled t f tab) {bytes arr : List ℕ} (G : Agrees t f bytes arr) where
   abbrev P : Prog
   P = prog t
 
@@ -63,8 +63,8 @@ module _ {f : List ℕ} {t : Tree} (A : Accepts f t) {tab : List ℕ} (T : Table
     pub head-at : lookIn tab (2048 + b) ≡ headOf ρ
     head-at = near A T 2048 b (omega arith) h ∙ T .heads b h ∙ ap headOf e
 
-    pub record-is : recordAs (kind (forget ρ)) f (lookIn tab b) ≡ forget ρ
-    record-is = subst (λ r. recordAs (kind r) f (lookIn tab b) ≡ r) (at-is t b ∙ ap forget e) (ap (recordAs (kind (at t b)) f) (offset-is A T b h) ∙ read-at A b h)
+    pub record-is : recordAs (kind (forget ρ)) bytes (lookIn tab b) ≡ forget ρ
+    record-is = subst (λ r. recordAs (kind r) bytes (lookIn tab b) ≡ r) (at-is t b ∙ ap forget e) (ap (recordAs (kind (at t b)) bytes) (offset-is A T b h) ∙ G .reads b h)
 
   pub middle-at : (b : ℕ) → b < length (recordsOf t) → (c : Con) → Part P c b → lookIn tab (3072 + b) ≡ c .m
   middle-at b h c p = near A T 3072 b (omega arith) h ∙ T .middles b c h p
@@ -84,29 +84,29 @@ module _ {f : List ℕ} {t : Tree} (A : Accepts f t) {tab : List ℕ} (T : Table
   truth-fate fs σ S k (stop outside) K hy hn = (refl, refl)
 
   pub test-fate : (fs : List Frame) (σ : Store) (S : Spot) (k : ℕ) (e : Expr) (K : Bool → Answer (Cut × Store)) → (S .b < 1024) × (lookIn tab (1024 + S .b) ≡ k) → 4 < k → k < 11
-      → parse 16 f (lookIn tab (S .b) + 4) .tree ≡ e
+      → parse 16 bytes (lookIn tab (S .b) + 4) .tree ≡ e
       → Fate P fs σ (ruled (testedOf S k 1 tab) σ) (K true) → Fate P fs σ (ruled (testedOf S k 0 tab) σ) (K false)
-      → Fate P fs σ (ruleOf f tab arr S σ) (bind (holds t σ e) K)
+      → Fate P fs σ (ruleOf bytes tab arr S σ) (bind (holds t σ e) K)
   unfolding holds evaluated
   test-fate fs σ S k e K kk lo hi tree hy hn =
-      fate-of P fs σ (ruleOf f tab arr S σ) (testedOf S k (truthOf (eval (layout t) σ e)) tab) σ (bind (holds t σ e) K)
-      (rule-test f tab arr S σ k (lookIn tab (S .b)) (sym (kk .1)) refl (testedOf S k (truthOf (eval (layout t) σ e)) tab) (kk .0) (λ e. omega arith) (λ e. omega arith) (λ e. omega arith) (λ e. omega arith) (truthOf (eval (layout t) σ e)) (omega arith) refl
+      fate-of P fs σ (ruleOf bytes tab arr S σ) (testedOf S k (truthOf (eval (layout t) σ e)) tab) σ (bind (holds t σ e) K)
+      (rule-test bytes tab arr S σ k (lookIn tab (S .b)) (sym (kk .1)) refl (testedOf S k (truthOf (eval (layout t) σ e)) tab) (kk .0) (λ e. omega arith) (λ e. omega arith) (λ e. omega arith) (λ e. omega arith) (truthOf (eval (layout t) σ e)) (omega arith) refl
       (ap truthOf (sym (ap (eval (arraysOf arr) σ) tree ∙ worth-is t arr G σ e))))
       (truth-fate fs σ S k (eval (layout t) σ e) K hy hn)
 
-  pub tree-if : (o : ℕ) (e : Expr) → recordAs 5 f o ≡ if e → parse 16 f (o + 4) .tree ≡ e
+  pub tree-if : (o : ℕ) (e : Expr) → recordAs 5 bytes o ≡ if e → parse 16 bytes (o + 4) .tree ≡ e
   unfolding recordAs
   tree-if o e q = cc
 
-  pub tree-fi : (o : ℕ) (e : Expr) → recordAs 7 f o ≡ fi e → parse 16 f (o + 4) .tree ≡ e
+  pub tree-fi : (o : ℕ) (e : Expr) → recordAs 7 bytes o ≡ fi e → parse 16 bytes (o + 4) .tree ≡ e
   unfolding recordAs
   tree-fi o e q = cc
 
-  pub tree-from : (o : ℕ) (e : Expr) → recordAs 8 f o ≡ from e → parse 16 f (o + 4) .tree ≡ e
+  pub tree-from : (o : ℕ) (e : Expr) → recordAs 8 bytes o ≡ from e → parse 16 bytes (o + 4) .tree ≡ e
   unfolding recordAs
   tree-from o e q = cc
 
-  pub tree-until : (o : ℕ) (e : Expr) → recordAs 10 f o ≡ until e → parse 16 f (o + 4) .tree ≡ e
+  pub tree-until : (o : ℕ) (e : Expr) → recordAs 10 bytes o ≡ until e → parse 16 bytes (o + 4) .tree ≡ e
   unfolding recordAs
   tree-until o e q = cc
 

@@ -3,7 +3,8 @@ use Prim.Native.Nat.{ℕ, zero, suc, _+_, _^_, _≤_, _<_, pred}
 use mathlib.Core.Path.{_≡_, refl, sym, ap, _∙_, subst}
 use mathlib.Core.Bool.{Bool, true, false, cond}
 use mathlib.Core.List.{List, [], _∷_, _++_, append-assoc}
-use lib.ListN.{length, getD, drop, length-append, List·getD-eq-default}
+use lib.ListN.{length, getD, drop, length-append, length-drop, List·getD-eq-default}
+use lib.Seq.{drop-append-le}
 use lib.Dec.{ltb}
 use native.Mathlib.Omega.{arith}
 use borrow.Author.Tests.{lt-ltb, ltb-false, ltb-true}
@@ -94,20 +95,28 @@ module _ {f : List ℕ} {t : Tree} (A : Accepts f t) where
       go true e = ltb-true x count e
       go false e = absurd (not-names (P .at x) 0 [] (sym (at-is t x) ∙ List·getD-eq-default (recordsOf t) (names 0 []) (ltb-false x count e)) x t P (accepted-wf A .here x) q lo hi)
 
-  pub read-at : (x : ℕ) → x < count → recordAs (kind (at t x)) f (getD (offsets f) x 0) ≡ at t x
-  unfolding encodeRecord
-  read-at x h =
-      let s : length f < 2 ^ 16 = omega (arith, A .rows .short) in
-      let r = getD (recordsOf t) x skip in
-      let o = getD (offsets f) x 0 in
-      let D = record-at f (recordsOf t) s (A .rows .bytes) x h in
-      let e : r ≡ at t x = getD-any (recordsOf t) x skip (names 0 []) h in
-      subst (λ r. recordAs (kind r) f o ≡ r) e
-      (complete-body f o _ r (formed-at 0 0 (recordsOf t) (A .rows .fine) x h) (body-at o r _ D)
-      (word-is f o r _ (short-is f s o r _ D) D ∙ size-of r) .1)
-    where
-      body-at : (o : ℕ) (r : Record) (y : List ℕ) → drop o f ≡ encodeRecord r ++ y → drop (o + 4) f ≡ body r ++ y
-      body-at o r y D = front-rest f o 4 _ D
+  -- bytes that begin with the file read like it at its records, whatever stands behind
+  module _ (zs bytes : List ℕ) (begun : bytes ≡ f ++ zs) (short : length bytes < 2 ^ 16) where
+    behind : (o : ℕ) (x y : List ℕ) → 0 < length x → drop o f ≡ x ++ y → drop o bytes ≡ x ++ (y ++ zs)
+    behind o x y n D =
+        let h : o ≤ length f = omega (arith, length-drop o f, length-append x y, ap length D) in
+        ap (drop o) begun ∙ (drop-append-le o f zs h ∙ (ap (λ (l : List ℕ). l ++ zs) D ∙ append-assoc x y zs))
+
+    pub read-at : (x : ℕ) → x < count → recordAs (kind (at t x)) bytes (getD (offsets f) x 0) ≡ at t x
+    unfolding encodeRecord
+    read-at x h =
+        let s : length f < 2 ^ 16 = omega (arith, A .rows .short) in
+        let r = getD (recordsOf t) x skip in
+        let o = getD (offsets f) x 0 in
+        let y = bytesOf (drop (suc x) (recordsOf t)) in
+        let D = behind o (encodeRecord r) y (omega arith) (record-at f (recordsOf t) s (A .rows .bytes) x h) in
+        let e : r ≡ at t x = getD-any (recordsOf t) x skip (names 0 []) h in
+        subst (λ r. recordAs (kind r) bytes o ≡ r) e
+        (complete-body bytes o _ r (formed-at 0 0 (recordsOf t) (A .rows .fine) x h) (body-at o r _ D)
+        (word-is bytes o r _ (short-is bytes short o r _ D) D ∙ size-of r) .1)
+      where
+        body-at : (o : ℕ) (r : Record) (y : List ℕ) → drop o bytes ≡ encodeRecord r ++ y → drop (o + 4) bytes ≡ body r ++ y
+        body-at o r y D = front-rest bytes o 4 _ D
 
   module _ {tab : List ℕ} (T : Tabled t f tab) where
     pub near : (n x : ℕ) → n ≤ 8192 → x < count → lookIn tab (n + x) ≡ getD tab (n + x) 0

@@ -13,10 +13,12 @@ use Rattle.expr.specs.Bytes.{parse}
 use Rattle.expr.specs.Answers.{arraysOf, worthAt}
 use Rattle.expr.proofs.Agree.{eval-agree}
 use Rattle.place.specs.Slots.{dirNumber}
-use Rattle.records.specs.Records.{Target, cell, entry, Record, assign}
-use Rattle.order.specs.Trees.{Tree}
+use Rattle.records.specs.Records.{Target, cell, entry, Record, assign, kind}
+use Rattle.order.specs.Trees.{Tree, recordsOf}
 use Rattle.records.specs.Faults.{word}
 use Rattle.records.specs.Reading.{recordAs}
+use Rattle.records.specs.Walk.{offsets}
+use Rattle.moves.specs.Labels.{at}
 use Rattle.moves.specs.Places.{Dir, down, up}
 use Rattle.moves.specs.Stores.{Answer, ok, no, badIndex, bind, Store, layout, answered, evaluated, applied, operator, entryAt, cellOf, assigned}
 use Rattle.machine.specs.Sets.{operatorAt, worked, entryBy, setTo, setEntry, setAt}
@@ -27,12 +29,13 @@ operator-is zero up = refl
 operator-is (suc zero) up = refl
 operator-is (suc (suc o)) up = rw (ne-eqb (suc (suc o)) 0 (λ e. omega arith), ne-eqb (suc (suc o)) 1 (λ e. omega arith))
 
--- the arrays are the tree's
-pub record Agrees (t : Tree) (arr : List ℕ) : Type 0 where
+-- the arrays are the tree's, and the bytes read like the file f at its records
+pub record Agrees (t : Tree) (f bytes arr : List ℕ) : Type 0 where
   pub starts : (a : ℕ) → getD (arraysOf arr .starts) a 0 ≡ getD (layout t .starts) a 0
   pub lengths : (a : ℕ) → getD (arraysOf arr .lengths) a 0 ≡ getD (t .lengths) a 0
+  pub reads : (x : ℕ) → x < length (recordsOf t) → recordAs (kind (at t x)) bytes (getD (offsets f) x 0) ≡ at t x
 
-module _ (t : Tree) (arr : List ℕ) (G : Agrees t arr) (σ : Store) where
+module _ {f bytes : List ℕ} (t : Tree) (arr : List ℕ) (G : Agrees t f bytes arr) (σ : Store) where
   pub worth-is : (e : Expr) → eval (arraysOf arr) σ e ≡ eval (layout t) σ e
   worth-is e = eval-agree (arraysOf arr) (layout t) σ (G .starts) (G .lengths) e
 
@@ -45,7 +48,7 @@ module _ (t : Tree) (arr : List ℕ) (G : Agrees t arr) (σ : Store) where
   unfolding evaluated
   set-cell-is c o d e = ap₂ (λ n w. setTo c n σ w) (operator-is o d) (worth-is e)
 
-  module _ (f : List ℕ) (at : ℕ) (d : Dir) where
+  module _ (at : ℕ) (d : Dir) where
     scalar-is : (o c : ℕ) (e : Expr) → setTo c (operatorAt o (dirNumber d)) σ (eval (arraysOf arr) σ e) ≡ assigned t o (cell c) e d σ
     unfolding assigned cellOf bind
     scalar-is o c e = set-cell-is c o d e
@@ -58,22 +61,22 @@ module _ (t : Tree) (arr : List ℕ) (G : Agrees t arr) (σ : Store) where
         λ j. bind (bind (answered (worth-is i j)) (λ v. entry-is a v j)) (λ c. set-cell-is c o d e j)
 
     set-as : (b : Bool) (o : ℕ) (x : Target) (e : Expr)
-        → assign (getD f (at + 4) 0) (cond b (cell (word f (at + 6))) (entry (word f (at + 6)) (parse 16 f (at + 8) .tree))) (parse 16 f (cond b (at + 8) (parse 16 f (at + 8) .next)) .tree)
+        → assign (getD bytes (at + 4) 0) (cond b (cell (word bytes (at + 6))) (entry (word bytes (at + 6)) (parse 16 bytes (at + 8) .tree))) (parse 16 bytes (cond b (at + 8) (parse 16 bytes (at + 8) .next)) .tree)
         ≡ assign o x e
-        → cond b (setTo (word f (at + 6)) (operatorAt (getD f (at + 4) 0) (dirNumber d)) σ (worthAt arr σ (parse 16 f (at + 8))))
-        (setEntry f (at + 8) (word f (at + 6)) (operatorAt (getD f (at + 4) 0) (dirNumber d)) arr σ) ≡ assigned t o x e d σ
+        → cond b (setTo (word bytes (at + 6)) (operatorAt (getD bytes (at + 4) 0) (dirNumber d)) σ (worthAt arr σ (parse 16 bytes (at + 8))))
+        (setEntry bytes (at + 8) (word bytes (at + 6)) (operatorAt (getD bytes (at + 4) 0) (dirNumber d)) arr σ) ≡ assigned t o x e d σ
     unfolding setEntry
     set-as true o x e q =
-        let eo : getD f (at + 4) 0 ≡ o = cc in
-        let ex : cell (word f (at + 6)) ≡ x = cc in
-        let ee : parse 16 f (at + 8) .tree ≡ e = cc in
+        let eo : getD bytes (at + 4) 0 ≡ o = cc in
+        let ex : cell (word bytes (at + 6)) ≡ x = cc in
+        let ee : parse 16 bytes (at + 8) .tree ≡ e = cc in
         scalar-is _ _ _ ∙ (λ j. assigned t (eo j) (ex j) (ee j) d σ)
     set-as false o x e q =
-        let eo : getD f (at + 4) 0 ≡ o = cc in
-        let ex : entry (word f (at + 6)) (parse 16 f (at + 8) .tree) ≡ x = cc in
-        let ee : parse 16 f (parse 16 f (at + 8) .next) .tree ≡ e = cc in
+        let eo : getD bytes (at + 4) 0 ≡ o = cc in
+        let ex : entry (word bytes (at + 6)) (parse 16 bytes (at + 8) .tree) ≡ x = cc in
+        let ee : parse 16 bytes (parse 16 bytes (at + 8) .next) .tree ≡ e = cc in
         array-is _ _ _ _ ∙ (λ j. assigned t (eo j) (ex j) (ee j) d σ)
 
-    pub set-is : (o : ℕ) (x : Target) (e : Expr) → recordAs 4 f at ≡ assign o x e → setAt f at (dirNumber d) arr σ ≡ assigned t o x e d σ
+    pub set-is : (o : ℕ) (x : Target) (e : Expr) → recordAs 4 bytes at ≡ assign o x e → setAt bytes at (dirNumber d) arr σ ≡ assigned t o x e d σ
     unfolding setAt recordAs
-    set-is o x e q = set-as (eqb (getD f (at + 5) 0) 0) o x e q
+    set-is o x e q = set-as (eqb (getD bytes (at + 5) 0) 0) o x e q

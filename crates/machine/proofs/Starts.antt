@@ -35,7 +35,7 @@ use Rattle.machine.specs.Answers.{numbered, direction, StartSays, refuse
 use Rattle.machine.proofs.Labels.{along-is}
 use Rattle.machine.proofs.Calls.{gate-is, gate-side, gate-encl}
 use Rattle.machine.proofs.Giving.{gives-done}
-use Rattle.machine.proofs.Whole.{agrees}
+use Rattle.machine.proofs.Whole.{agrees-bare}
 
 module _ (f : List ℕ) (t : Tree) (A : Accepts f t) (d : Dir) where
   abbrev P : Prog
@@ -43,7 +43,7 @@ module _ (f : List ℕ) (t : Tree) (A : Accepts f t) (d : Dir) where
 
   start-held : movedOf blankOf (dirNumber d) (gateOf (tableOf f) 0 (dirNumber d)) (alongOf (tableOf f) (dirNumber d) (gateOf (tableOf f) 0 (dirNumber d))) ≡ held (start t d)
   start-held =
-      let w = accepted-wf A in let T = tabled f t A in let G = agrees f t A in
+      let w = accepted-wf A in let T = tabled f t A in let G = agrees-bare f t A in
       let k = w .main-ok in
       let y = gateL P 0 d in
       let F = fit-gate t P 0 k [] in-main (omega arith) d in

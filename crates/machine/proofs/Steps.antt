@@ -48,7 +48,7 @@ use Rattle.machine.proofs.Calls.{other-is, call-there, uncall-there, en
 nowhere : Place
 nowhere = record { a = 0; b = 0; d = down; frames = [] }
 
-module _ {f : List ℕ} {t : Tree} (A : Accepts f t) {tab : List ℕ} (T : Tabled t f tab) {arr : List ℕ} (G : Agrees t arr) where
+module _ {f : List ℕ} {t : Tree} (A : Accepts f t) {tab : List ℕ} (T : Tabled t f tab) {bytes arr : List ℕ} (G : Agrees t f bytes arr) where
   abbrev P : Prog
   P = prog t
 
@@ -56,18 +56,18 @@ module _ {f : List ℕ} {t : Tree} (A : Accepts f t) {tab : List ℕ} (T : Table
   frames g cs = P .encl g ++ stack P cs
 
   abbrev Does : (g : ℕ) (d : Dir) (cs : List ℕ) (b : ℕ) → Store → Answer (Cut × Store) → Type 0
-  Does g d cs b σ a = Fate P (frames g cs) σ (ruleOf f tab arr (spotAt (frames g cs) d cs b) σ) a
+  Does g d cs b σ a = Fate P (frames g cs) σ (ruleOf bytes tab arr (spotAt (frames g cs) d cs b) σ) a
 
   with-b : (g : ℕ) (d : Dir) (cs : List ℕ) (σ : Store) (b : ℕ) (ρ : Rec) (a : Answer (Cut × Store)) → P .at (met g d) ≡ ρ → side ρ (met g d) d ≡ b
       → Does g d cs b σ a → Does g d cs (tip P g d) σ a
   with-b g d cs σ b ρ a e s h =
       let z : b ≡ tip P g d = sym s ∙ ap (λ r. side r (met g d) d) (sym e) in subst (λ x. Does g d cs x σ a) z h
 
-  call-number : (o q : ℕ) → recordAs 11 f o ≡ call q → q ≡ word f (o + 4)
+  call-number : (o q : ℕ) → recordAs 11 bytes o ≡ call q → q ≡ word bytes (o + 4)
   unfolding recordAs
   call-number o q e = cc
 
-  uncall-number : (o q : ℕ) → recordAs 12 f o ≡ uncall q → q ≡ word f (o + 4)
+  uncall-number : (o q : ℕ) → recordAs 12 bytes o ≡ uncall q → q ≡ word bytes (o + 4)
   unfolding recordAs
   uncall-number o q e = cc
 
@@ -84,8 +84,8 @@ module _ {f : List ℕ} {t : Tree} (A : Accepts f t) {tab : List ℕ} (T : Table
     -- a return
     returning : (k : ℕ) → lookIn tab (1024 + met g d) ≡ k → k ≤ 3 → P .encl g ≡ [] → Does g d cs (met g d) σ (through t P return′ (met g d) d cs σ)
     returning k e h en =
-        fate-of P (frames g cs) σ (ruleOf f tab arr S σ) (returnedOf S tab) σ (through t P return′ (met g d) d cs σ)
-        (rule-return f tab arr S σ k (lookIn tab (met g d)) (sym e) refl (returnedOf S tab) low (λ z. omega arith) (λ z. omega arith) (λ z. omega arith) (λ z. omega arith) h refl)
+        fate-of P (frames g cs) σ (ruleOf bytes tab arr S σ) (returnedOf S tab) σ (through t P return′ (met g d) d cs σ)
+        (rule-return bytes tab arr S σ k (lookIn tab (met g d)) (sym e) refl (returnedOf S tab) low (λ z. omega arith) (λ z. omega arith) (λ z. omega arith) (λ z. omega arith) h refl)
         (return-fate A T G g d (met g d) σ en (F .q) cs (F .good) (F .few))
 
     -- a call
@@ -93,8 +93,8 @@ module _ {f : List ℕ} {t : Tree} (A : Accepts f t) {tab : List ℕ} (T : Table
     unfolding through kind
     calling q e (k, o) =
         let n = o .near (F .q) (lo-met t P g d cs F) (hi-met t P g d cs F) in
-        fate-of P (frames g cs) σ (ruleOf f tab arr S σ) (enteredOf S q (dirNumber d) tab) σ (through t P (enter′ q d) (met g d) d cs σ)
-        (rule-call f tab arr S σ 11 (lookIn tab (met g d)) (sym (kind-at A T G (met g d) here (callL q) e)) refl (enteredOf S q (dirNumber d) tab) low (λ z. omega arith) (λ z. omega arith) q refl refl
+        fate-of P (frames g cs) σ (ruleOf bytes tab arr S σ) (enteredOf S q (dirNumber d) tab) σ (through t P (enter′ q d) (met g d) d cs σ)
+        (rule-call bytes tab arr S σ 11 (lookIn tab (met g d)) (sym (kind-at A T G (met g d) here (callL q) e)) refl (enteredOf S q (dirNumber d) tab) low (λ z. omega arith) (λ z. omega arith) q refl refl
         (call-number (lookIn tab (met g d)) q (record-is A T G (met g d) here (callL q) e)))
         (enter-fate A T G g d cs σ F q d k o (call-there A T G (met g d) q here e) (λ h. fit-gate t P q k (met g d ∷ cs) (by-call e (n .0) (n .1) (F .good)) h d))
 
@@ -102,8 +102,8 @@ module _ {f : List ℕ} {t : Tree} (A : Accepts f t) {tab : List ℕ} (T : Table
     unfolding through kind
     uncalling q e (k, o) =
         let n = o .near (F .q) (lo-met t P g d cs F) (hi-met t P g d cs F) in
-        fate-of P (frames g cs) σ (ruleOf f tab arr S σ) (enteredOf S q (dirNumber (opp d)) tab) σ (through t P (enter′ q (opp d)) (met g d) d cs σ)
-        (rule-uncall f tab arr S σ 12 (lookIn tab (met g d)) (sym (kind-at A T G (met g d) here (uncallL q) e)) refl (enteredOf S q (dirNumber (opp d)) tab) low (λ z. omega arith) (λ z. omega arith) (λ z. omega arith) q (dirNumber (opp d)) refl refl (sym (other-is d))
+        fate-of P (frames g cs) σ (ruleOf bytes tab arr S σ) (enteredOf S q (dirNumber (opp d)) tab) σ (through t P (enter′ q (opp d)) (met g d) d cs σ)
+        (rule-uncall bytes tab arr S σ 12 (lookIn tab (met g d)) (sym (kind-at A T G (met g d) here (uncallL q) e)) refl (enteredOf S q (dirNumber (opp d)) tab) low (λ z. omega arith) (λ z. omega arith) (λ z. omega arith) q (dirNumber (opp d)) refl refl (sym (other-is d))
         (uncall-number (lookIn tab (met g d)) q (record-is A T G (met g d) here (uncallL q) e)))
         (enter-fate A T G g d cs σ F q (opp d) k o (uncall-there A T G (met g d) q here e) (λ h. fit-gate t P q k (met g d ∷ cs) (by-uncall e (n .0) (n .1) (F .good)) h (opp d)))
 
@@ -159,12 +159,12 @@ module _ {f : List ℕ} {t : Tree} (A : Accepts f t) {tab : List ℕ} (T : Table
   top-label [] h = ap (λ (x : Top). x .label) (top-held-none nowhere)
   top-label (i ∷ F) h = ap (λ (x : Top). x .label) (top-held nowhere i F (omega arith))
 
-  pub decided : (p : Place) → Fits t p → (σ : Store) → Follows (held p) σ (ruleOf f tab arr (spotOf (held p) (calls (p .frames))) σ) (step t p σ)
+  pub decided : (p : Place) → Fits t p → (σ : Store) → Follows (held p) σ (ruleOf bytes tab arr (spotOf (held p) (calls (p .frames))) σ) (step t p σ)
   decided p fit σ =
       let k = fits-placed t (w A T G) p fit in
-      subst (λ p. Follows (held p) σ (ruleOf f tab arr (spotOf (held p) (calls (p .frames))) σ) (step t p σ)) (sym (k .is)) (at-cut (k .cut) (k .sits))
+      subst (λ p. Follows (held p) σ (ruleOf bytes tab arr (spotOf (held p) (calls (p .frames))) σ) (step t p σ)) (sym (k .is)) (at-cut (k .cut) (k .sits))
     where
-      at-cut : (s : Cut) → Sits P s → Follows (held (view P s)) σ (ruleOf f tab arr (spotOf (held (view P s)) (calls (view P s .frames))) σ) (step t (view P s) σ)
+      at-cut : (s : Cut) → Sits P s → Follows (held (view P s)) σ (ruleOf bytes tab arr (spotOf (held (view P s)) (calls (view P s .frames))) σ) (step t (view P s) σ)
       at-cut s F =
           let r = room A s F in
           rw (sees t (w A T G) s F σ, calls-stack t (w A T G) (s .g) (s .cs), top-kind (view P s .frames) r, top-label (view P s .frames) r)
@@ -182,26 +182,26 @@ module _ {f : List ℕ} {t : Tree} (A : Accepts f t) {tab : List ℕ} (T : Table
   Ends x k r = x ≡ gone (stopNumber (r .stop)) (k + r .steps) (held (r .place)) (r .store)
 
   pub walked : (n : ℕ) (p : Place) → Fits t p → (σ : Store) (k : ℕ)
-      → goOf (ruleOf f tab arr) n (held p) (calls (p .frames)) σ k ≡ gone (stopNumber (run t n p σ .stop)) (k + run t n p σ .steps) (held (run t n p σ .place)) (run t n p σ .store)
+      → goOf (ruleOf bytes tab arr) n (held p) (calls (p .frames)) σ k ≡ gone (stopNumber (run t n p σ .stop)) (k + run t n p σ .steps) (held (run t n p σ .place)) (run t n p σ .store)
   unfolding goOf runBy
   walked zero p fit σ k = let z : k ≡ k + 0 = omega arith in ap (λ j. gone 0 j (held p) σ) z
   walked (suc n) p fit σ k = go (step t p σ) refl (decided p fit σ) (walked n)
     where
-      go : (a : Answer (Place × Store)) → step t p σ ≡ a → Follows (held p) σ (ruleOf f tab arr (spotOf (held p) (calls (p .frames))) σ) a
-          → ((p : Place) → Fits t p → (σ : Store) (k : ℕ) → Ends (goOf (ruleOf f tab arr) n (held p) (calls (p .frames)) σ k) k (run t n p σ))
-          → Ends (cond (eqb (ruleOf f tab arr (spotOf (held p) (calls (p .frames))) σ .move .reason) 0)
-          (goOf (ruleOf f tab arr) n (afterOf (held p) (ruleOf f tab arr (spotOf (held p) (calls (p .frames))) σ .move)) (ruleOf f tab arr (spotOf (held p) (calls (p .frames))) σ .move .calls) (ruleOf f tab arr (spotOf (held p) (calls (p .frames))) σ .store) (k + 1))
-          (gone (ruleOf f tab arr (spotOf (held p) (calls (p .frames))) σ .move .reason) k (held p) (ruleOf f tab arr (spotOf (held p) (calls (p .frames))) σ .store)))
+      go : (a : Answer (Place × Store)) → step t p σ ≡ a → Follows (held p) σ (ruleOf bytes tab arr (spotOf (held p) (calls (p .frames))) σ) a
+          → ((p : Place) → Fits t p → (σ : Store) (k : ℕ) → Ends (goOf (ruleOf bytes tab arr) n (held p) (calls (p .frames)) σ k) k (run t n p σ))
+          → Ends (cond (eqb (ruleOf bytes tab arr (spotOf (held p) (calls (p .frames))) σ .move .reason) 0)
+          (goOf (ruleOf bytes tab arr) n (afterOf (held p) (ruleOf bytes tab arr (spotOf (held p) (calls (p .frames))) σ .move)) (ruleOf bytes tab arr (spotOf (held p) (calls (p .frames))) σ .move .calls) (ruleOf bytes tab arr (spotOf (held p) (calls (p .frames))) σ .store) (k + 1))
+          (gone (ruleOf bytes tab arr (spotOf (held p) (calls (p .frames))) σ .move .reason) k (held p) (ruleOf bytes tab arr (spotOf (held p) (calls (p .frames))) σ .store)))
           k (onward a (λ p σ. runBy (step t) n p σ) p σ)
       go (no r) e h ih =
-          let x = ruleOf f tab arr (spotOf (held p) (calls (p .frames))) σ in
+          let x = ruleOf bytes tab arr (spotOf (held p) (calls (p .frames))) σ in
           let z : k ≡ k + 0 = omega arith in
-          ap (λ (b : Bool). cond b (goOf (ruleOf f tab arr) n (afterOf (held p) (x .move)) (x .move .calls) (x .store) (k + 1)) (gone (x .move .reason) k (held p) (x .store))) (ne-eqb (x .move .reason) 0 (λ y. number-some r (sym (h .0) ∙ y)))
+          ap (λ (b : Bool). cond b (goOf (ruleOf bytes tab arr) n (afterOf (held p) (x .move)) (x .move .calls) (x .store) (k + 1)) (gone (x .move .reason) k (held p) (x .store))) (ne-eqb (x .move .reason) 0 (λ y. number-some r (sym (h .0) ∙ y)))
           ∙ (λ i. gone (h .0 i) (z i) (held p) (h .1 i))
       go (ok s) e h ih =
-          let x = ruleOf f tab arr (spotOf (held p) (calls (p .frames))) σ in
+          let x = ruleOf bytes tab arr (spotOf (held p) (calls (p .frames))) σ in
           let r = run t n (s .0) (s .1) in
           let z : k + 1 + r .steps ≡ k + suc (r .steps) = omega arith in
-          ap (λ (b : Bool). cond b (goOf (ruleOf f tab arr) n (afterOf (held p) (x .move)) (x .move .calls) (x .store) (k + 1)) (gone (x .move .reason) k (held p) (x .store))) (eq-eqb (x .move .reason) 0 (h .0))
-          ∙ ((λ i. goOf (ruleOf f tab arr) n (h .1 i) (h .2 i) (h .3 i) (k + 1))
+          ap (λ (b : Bool). cond b (goOf (ruleOf bytes tab arr) n (afterOf (held p) (x .move)) (x .move .calls) (x .store) (k + 1)) (gone (x .move .reason) k (held p) (x .store))) (eq-eqb (x .move .reason) 0 (h .0))
+          ∙ ((λ i. goOf (ruleOf bytes tab arr) n (h .1 i) (h .2 i) (h .3 i) (k + 1))
           ∙ (ih (s .0) (h .4) (s .1) (k + 1) ∙ ap (λ j. gone (stopNumber (r .stop)) j (held (r .place)) (r .store)) z))

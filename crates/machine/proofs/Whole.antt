@@ -1,8 +1,8 @@
 -- What the public functions compute is what Answers says, for every file, struct and store.
-use Prim.Native.Nat.{ℕ, zero, suc, _+_, _≤_, _<_}
+use Prim.Native.Nat.{ℕ, zero, suc, _+_, _^_, _≤_, _<_}
 use mathlib.Core.Path.{_≡_, refl, sym, ap, ap₂, _∙_, subst}
 use mathlib.Core.Bool.{Bool, true, false, cond, not}
-use mathlib.Core.List.{List, [], _∷_, _++_, map, reverse, reverse-cons, append-assoc}
+use mathlib.Core.List.{List, [], _∷_, _++_, map, reverse, reverse-cons, append-assoc, append-nil}
 use lib.ListN.{length, getD, take, drop, replicate, length-map, length-reverse, length-drop, length-replicate}
 use lib.Seq.{getD-at, take-all, length-sets}
 use lib.Dec.{eqb, leb}
@@ -40,6 +40,7 @@ use Rattle.machine.specs.Walk.{callsIn, callsOf, Gone, gone, goOf}
 use Rattle.machine.specs.Whole.{staying, Result, result, Runs, wentTo, checkedRun}
 use Rattle.machine.specs.Answers.{Gives, numbered, Before, program, size, place, Ready, StepSays, refused, stopped, arrived, RunSays, ran}
 use Rattle.machine.proofs.Room.{room}
+use Rattle.machine.proofs.Labels.{read-at}
 use Rattle.machine.proofs.Sets.{Agrees}
 use Rattle.machine.proofs.Steps.{walked}
 use Rattle.machine.proofs.Giving.{gives-refused, by-gives}
@@ -54,11 +55,16 @@ arrays-long : (f : List ℕ) → length (arraysAt f) ≡ 32
 unfolding arraysAt
 arrays-long f = simp (length-sets, length-replicate)
 
-pub agrees : (f : List ℕ) (t : Tree) → Accepts f t → Agrees t (arraysAt f)
-agrees f t A = record {
+pub agrees : (f : List ℕ) (t : Tree) → Accepts f t → (zs bytes : List ℕ) → bytes ≡ f ++ zs → length bytes < 2 ^ 16 → Agrees t f bytes (arraysAt f)
+agrees f t A zs bytes begun short = record {
   starts = λ a. arrays-start f t A a ∙ ap (λ (l : List ℕ). getD l a 0) (starting-is (t .scalars) (t .lengths));
   lengths = λ a. ap (λ (l : List ℕ). getD l a 0) (take-all 16 (drop 16 (arraysAt f)) (omega (arith, length-drop 16 (arraysAt f), arrays-long f))) ∙ arrays-length f t A a;
+  reads = read-at A zs bytes begun short;
 }
+
+-- the file itself
+pub agrees-bare : (f : List ℕ) (t : Tree) → Accepts f t → Agrees t f f (arraysAt f)
+agrees-bare f t A = agrees f t A [] f (sym (append-nil f)) (omega (arith, A .rows .short))
 
 -- ---- the calls among the frames
 calls-are : (fs : List Frame) (r : List ℕ) → callsIn (reverse (map frameKind fs) ++ r) (length fs) ≡ calls fs
@@ -90,7 +96,7 @@ module _ (f : List ℕ) (q : Held) (σ : Store) (n : ℕ) where
         let room-p : length (p .frames) ≤ 1104 = subst (λ p. length (p .frames) ≤ 1104) (sym (k .is)) (room A (k .cut) (k .sits)) in
         let g : goOf (ruleOf f (tableOf f) (arraysAt f)) n q (callsOf (q .kinds) (q .count)) σ 0 ≡ gone (stopNumber (run t n p σ .stop)) (0 + run t n p σ .steps) (held (run t n p σ .place)) (run t n p σ .store) =
         (λ i. goOf (ruleOf f (tableOf f) (arraysAt f)) n (h i) (callsOf (h i .kinds) (h i .count)) σ 0)
-        ∙ (ap (λ c. goOf (ruleOf f (tableOf f) (arraysAt f)) n (held p) c σ 0) (calls-held p room-p) ∙ walked A (tabled f t A) (agrees f t A) n p fit σ 0) in
+        ∙ (ap (λ c. goOf (ruleOf f (tableOf f) (arraysAt f)) n (held p) c σ 0) (calls-held p room-p) ∙ walked A (tabled f t A) (agrees-bare f t A) n p fit σ 0) in
         let z : 0 + run t n p σ .steps ≡ run t n p σ .steps = omega arith in
         ran (record { accepts = A; sized = e; holds = h; fits = fit })
         (by-gives (ap (λ (x : Gone). x .went .reason) g))

@@ -134,6 +134,9 @@ module _ (τ : Tree) where
       go′ (ok v) q = entry-owned a v c (ltb-true a arrays (and-true (ltb a arrays) (known (τ .scalars) arrays i) t .0)) q
       go′ (no r) q = ok-no c r (sym q)
 
+  pub cell-there : (σ : Store) (x : Target) (c : ℕ) → thereTarget (τ .scalars) arrays x ≡ true → cellOf τ σ x ≡ ok c → c < cells τ
+  cell-there σ x c t q = owned-there (nameOf x) c (cell-owned σ x c t q)
+
   either-false : (a b : Bool) → (a || b) ≡ false → (a ≡ false) × (b ≡ false)
   either-false true b e = absurd (let z : _≡_ {A = ℕ} 0 1 = cc in let y : ⊥ = omega arith in y)
   either-false false b e = (refl, e)

@@ -19,6 +19,7 @@ pub mod Stopping
 pub mod Conditions
 pub mod Refusals
 pub mod Assign
+pub mod Behind
 pub mod Accepted
 pub mod Theorems
 pub mod Lines
