@@ -17,7 +17,8 @@ use lib.ListN.{getD, set}
 use lib.Seq.{getD-set-other}
 use mir.Syntax.{w32}
 use mir.Val.{SFits}
-use Rattle.values.specs.Values.{Value, is, zeroDivisor, applyOp, InRange}
+use Rattle.values.specs.Values.{Value, is, zeroDivisor, applyOp}
+use Rattle.values.specs.Packed.{InRange}
 use Rattle.values.proofs.Laws.{apply-fits}
 use Rattle.expr.specs.Tree.{Expr, con, var, read, bin, Valid, Arrays, badIndex, Worth, value, stop, worthOf, both, element, indexed, eval, Name, scalar, array, isArray, occurs, known, There, Same, Apart}
 use Rattle.expr.specs.Answers.{InCell}
