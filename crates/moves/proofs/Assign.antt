@@ -12,7 +12,8 @@ use borrow.Author.Tests.{ltb-true, ltb-false, eqb-true, eqb-false}
 use mir.Syntax.{w32}
 use mir.Val.{SFits}
 use Rattle.values.proofs.Laws.{undo-sum, undo-difference, undo-exclusive, sum-fits, difference-fits, exclusive-fits}
-use Rattle.expr.specs.Tree.{Expr, Valid, Worth, value, stop, eval, Name, scalar, array, occurs, known, There, Same}
+use Rattle.expr.specs.Tree.{Expr, Valid, Worth, value, stop, eval, known}
+use Rattle.expr.specs.Agreement.{Name, scalar, array, occurs, There, Same}
 use Rattle.expr.specs.Answers.{InCell}
 use Rattle.expr.proofs.Agree.{eval-keeps, eval-fits}
 use Rattle.records.specs.Records.{Target, cell, entry, thereTarget, ownTarget, sum}

@@ -7,7 +7,8 @@ use native.Mathlib.Omega.{arith}
 use lib.ListN.{getD}
 use lib.Dec.{ltb}
 use borrow.Author.Tests.{lt-ltb, le-ltb, ne-eqb}
-use Rattle.expr.specs.Tree.{known, occurs, scalar, array}
+use Rattle.expr.specs.Tree.{known}
+use Rattle.expr.specs.Agreement.{occurs, scalar, array}
 use Rattle.expr.specs.Bytes.{whole}
 use Rattle.expr.specs.Answers.{knownOf, seenOf}
 use Rattle.expr.specs.declared.Known.{Known}

@@ -6,7 +6,8 @@ use Prim.Native.Nat.{ℕ, _+_, _^_, _<_}
 use lib.ListN.{length, getD, drop}
 use lib.Dec.{ltb, eqb}
 use Rattle.codes.proofs.Rows.{byte-of, short-back}
-use Rattle.expr.specs.Tree.{Expr, encode, known, occurs, scalar, array}
+use Rattle.expr.specs.Tree.{Expr, encode, known}
+use Rattle.expr.specs.Agreement.{occurs, scalar, array}
 use Rattle.expr.specs.Bytes.{Stands, Got, whole}
 use Rattle.expr.proofs.Format.{got, whole-of}
 use Rattle.records.specs.Records.{cell, entry, Record, names, begin, end, assign, if, else, fi, from, loop, until, call, uncall, skip, kind, body, encodeRecord, Plain, Formed, there, own}
