@@ -4,7 +4,7 @@ use mathlib.Core.List.{List, [], _∷_, _++_}
 use Prim.Native.Nat.{ℕ}
 use lib.IntN.{ℤ, pos, negℤ}
 use Rattle.values.specs.Values.{applyOp, wrap, floorDiv, floorMod}
-use Rattle.expr.specs.Tree.{Expr, con, bin, Worth, value, stop, worthOf, eval, known}
+use Rattle.expr.specs.Tree.{anyName, Expr, con, bin, Worth, value, stop, worthOf, eval, known}
 use Rattle.expr.specs.Agreement.{occurs}
 use Rattle.expr.specs.Bytes.{whole, parse, layer}
 use Rattle.expr.specs.Answers.{faultNumber}
