@@ -10,7 +10,8 @@ use lib.Seq.{sets}
 use mir.Syntax.{w32}
 use mir.Val.{SFits, ofZ, toZ}
 use mir.Facts.{toZ-ofZ}
-use Rattle.codes.specs.Codes.{bytes16, cellBytes, word16, word32, cellAt, written}
+use Rattle.codes.specs.Codes.{bytes16, cellBytes, word16}
+use Rattle.codes.specs.Numbers.{word32, cellAt, written}
 
 -- ---- reading: where a byte lies past the end it is 0
 module _ (s : List ℕ) (i : ℕ) where

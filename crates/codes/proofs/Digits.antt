@@ -5,7 +5,8 @@ use mathlib.Core.Path.{_≡_}
 use mathlib.Core.List.{[], _∷_}
 use Prim.Native.Nat.{ℕ, _+_, _*_, _/_, _%_, _^_, _<_}
 use native.Mathlib.Omega.{arith}
-use Rattle.codes.specs.Codes.{bytes16, bytes32}
+use Rattle.codes.specs.Codes.{bytes16}
+use Rattle.codes.specs.Numbers.{bytes32}
 
 pub number16 : (v : ℕ) → v < 2 ^ 16 → v % 256 + 256 * (v / 256 % 256) ≡ v
 number16 v h = omega arith

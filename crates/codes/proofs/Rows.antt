@@ -16,7 +16,8 @@ use lib.Seq.{sets, sets-eq, length-sets, length-take-le, drop-cons, drop-at, get
 use mir.Syntax.{w32}
 use mir.Val.{SFits, ofZ, toZ}
 use mir.Facts.{toZ-ofZ, ofZ-toZ, sfits-toZ, fits-ofZ}
-use Rattle.codes.specs.Codes.{bytes16, bytes32, cellBytes, word16, word32, cellAt, written, AllBytes}
+use Rattle.codes.specs.Codes.{bytes16, cellBytes, word16, AllBytes}
+use Rattle.codes.specs.Numbers.{bytes32, word32, cellAt, written}
 use Rattle.codes.proofs.Digits.{number16, number32, digits16, digits32}
 use Rattle.codes.proofs.Cases.{written-in}
 

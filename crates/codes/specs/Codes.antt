@@ -1,39 +1,23 @@
 -- Numbers as bytes: u16 and i32, little-endian, in program files and sessions.
 -- A list of bytes is a list of numbers below 256. Assumes nothing: these are definitions.
 use Prim.Native.Nat.{ℕ, _+_, _*_, _/_, _%_, _<_}
-use mathlib.Core.Bool.{cond}
 use mathlib.Core.List.{List, [], _∷_}
-use lib.Dec.{leb}
 use lib.IntN.{ℤ}
-use lib.ListN.{length, getD}
-use lib.Seq.{sets}
+use lib.ListN.{getD}
 use mir.Syntax.{w32}
-use mir.Val.{ofZ, toZ}
+use mir.Val.{ofZ}
 
--- two and four bytes, the low one first
+-- two bytes, the low one first
 abbrev pub bytes16 : ℕ → List ℕ
 bytes16 v = v % 256 ∷ v / 256 % 256 ∷ []
 
-abbrev pub bytes32 : ℕ → List ℕ
-bytes32 v = v % 256 ∷ v / 256 % 256 ∷ v / 65536 % 256 ∷ v / 16777216 % 256 ∷ []
-
--- an i32: the bytes of its 32 two's complement bits
+-- an i32: the four bytes of its 32 two's complement bits
 abbrev pub cellBytes : ℤ → List ℕ
-cellBytes z = bytes32 (ofZ w32 z)
+cellBytes z = let v : ℕ = ofZ w32 z in v % 256 ∷ v / 256 % 256 ∷ v / 65536 % 256 ∷ v / 16777216 % 256 ∷ []
 
--- the number at i; past the end there are zeros
+-- the u16 at i; past the end there are zeros
 abbrev pub word16 : List ℕ → ℕ → ℕ
 word16 s i = getD s i 0 + 256 * getD s (i + 1) 0
-
-abbrev pub word32 : List ℕ → ℕ → ℕ
-word32 s i = getD s i 0 + 256 * getD s (i + 1) 0 + 65536 * getD s (i + 2) 0 + 16777216 * getD s (i + 3) 0
-
-abbrev pub cellAt : List ℕ → ℕ → ℤ
-cellAt s i = toZ w32 (word32 s i)
-
--- s with the bytes b from i on, all else as it was; s itself where they do not fit
-unfoldable pub written : List ℕ → ℕ → List ℕ → List ℕ
-written s i b = cond (leb (i + length b) (length s)) (sets s i b) s
 
 -- a list of bytes
 abbrev pub AllBytes : List ℕ → Type 0

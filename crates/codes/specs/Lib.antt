@@ -1,2 +1,3 @@
 -- The definitions of `codes`.
 pub mod Codes
+pub mod Numbers

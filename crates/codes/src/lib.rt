@@ -2,7 +2,8 @@
 ghost use mathlib.Core.Path.{_≡_};
 ghost use Prim.Native.Nat.{_+_, _*_, _^_, _<_};
 ghost use lib.ListN.{getD};
-ghost use Rattle.codes.specs.Codes.{bytes16, cellBytes, word16, word32, cellAt, written};
+ghost use Rattle.codes.specs.Codes.{bytes16, cellBytes, word16};
+ghost use Rattle.codes.specs.Numbers.{word32, cellAt, written};
 
 // A byte as a number, with the bound that sums of it need.
 fn wide(b: u8) -> usize

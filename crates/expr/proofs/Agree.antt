@@ -17,11 +17,14 @@ use lib.ListN.{getD, set}
 use lib.Seq.{getD-set-other}
 use mir.Syntax.{w32}
 use mir.Val.{SFits}
-use Rattle.values.specs.Values.{Value, is, zeroDivisor, applyOp, InRange}
+use Rattle.values.specs.Values.{Value, is, zeroDivisor, applyOp}
+use Rattle.values.specs.Packed.{InRange}
 use Rattle.values.proofs.Laws.{apply-fits}
-use Rattle.expr.specs.Tree.{Expr, con, var, read, bin, Valid, Arrays, badIndex, Worth, value, stop, worthOf, both, element, indexed, eval, Name, scalar, array, isArray, occurs, known, There, Same, Apart}
+use Rattle.expr.specs.Tree.{anyName, Expr, con, var, read, bin, Valid, Arrays, badIndex, Worth, value, stop, worthOf, element, eval, known}
+use Rattle.expr.specs.Agreement.{both, indexed, Name, scalar, array, isArray, occurs, There, Same, Apart}
 use Rattle.expr.specs.Answers.{InCell}
 use Rattle.expr.proofs.Layer.{and-true}
+use Rattle.expr.proofs.Knowns.{var-known, read-known, bin-known}
 
 -- ---- tests of two
 either-left : (a b : Bool) → a ≡ true → (a || b) ≡ true
@@ -49,7 +52,7 @@ module _ (arrays : Arrays) (σ τ : List ℤ) where
 
   -- ---- the store
   pub eval-names : (e : Expr) → ((n : Name) → occurs n e ≡ true → Same n arrays σ τ) → eval arrays σ e ≡ eval arrays τ e
-  unfolding eval occurs
+  unfolding eval occurs anyName
   eval-names (con v) h = refl
   eval-names (var x) h = ap value (h (scalar x) (eq-eqb x x refl))
   eval-names (read a i) h =
@@ -70,16 +73,16 @@ set-same (array a) layout σ cell v d = λ i h. getD-set-other σ cell (getD (la
 module _ (scalars arrays : ℕ) where
   -- a name that occurs in an expression whose names are there is there
   pub occurs-there : (m : Name) (e : Expr) → known scalars arrays e ≡ true → occurs m e ≡ true → There scalars arrays m
-  unfolding known occurs
+  unfolding occurs anyName
   occurs-there m (con v) k o = absurd (false≢true o)
-  occurs-there (scalar x) (var y) k o = rw (eqb-true y x o) at (ltb-true y scalars k)
+  occurs-there (scalar x) (var y) k o = rw (eqb-true y x o) at (ltb-true y scalars (sym (var-known scalars arrays y) ∙ k))
   occurs-there (array a) (var y) k o = absurd (false≢true o)
-  occurs-there (scalar x) (read b i) k o = occurs-there (scalar x) i (and-true (ltb b arrays) (known scalars arrays i) k .1) o
+  occurs-there (scalar x) (read b i) k o = occurs-there (scalar x) i (and-true (ltb b arrays) (known scalars arrays i) (sym (read-known scalars arrays b i) ∙ k) .1) o
   occurs-there (array a) (read b i) k o =
-      let both = and-true (ltb b arrays) (known scalars arrays i) k in
+      let both = and-true (ltb b arrays) (known scalars arrays i) (sym (read-known scalars arrays b i) ∙ k) in
       ⊎-elim (λ p. rw (eqb-true b a p) at (ltb-true b arrays (both .0))) (λ p. occurs-there (array a) i (both .1) p) (which (eqb b a) (occurs (array a) i) o)
   occurs-there m (bin p l r) k o =
-      let both = and-true (known scalars arrays l) (known scalars arrays r) k in
+      let both = and-true (known scalars arrays l) (known scalars arrays r) (sym (bin-known scalars arrays p l r) ∙ k) in
       ⊎-elim (λ q. occurs-there m l (both .0) q) (λ q. occurs-there m r (both .1) q) (which (occurs m l) (occurs m r) o)
 
   pub eval-keeps : (n : Name) (e : Expr) (layout : Arrays) (σ τ : List ℤ) → known scalars arrays e ≡ true → occurs n e ≡ false

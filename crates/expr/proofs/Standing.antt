@@ -4,7 +4,8 @@ use mathlib.Core.List.{List}
 use Prim.Native.Nat.{ℕ, _≤_}
 use lib.IntN.{ℤ}
 use Rattle.codes.specs.Codes.{AllBytes}
-use Rattle.expr.specs.Tree.{Expr, depth, Valid, eval, Name, occurs, known}
+use Rattle.expr.specs.Tree.{Expr, depth, Valid, eval, known}
+use Rattle.expr.specs.Agreement.{Name, occurs}
 use Rattle.expr.specs.Bytes.{Stands, parse, whole}
 use Rattle.expr.specs.Answers.{EndSays, endOf, packedWorth, InCell, movedTo, arraysOf, WorthSays, seenOf, knownOf}
 use Rattle.expr.specs.declared.End.the-variants.{At}

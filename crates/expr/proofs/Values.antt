@@ -14,11 +14,14 @@ use lib.Signed.{ltZ}
 use mir.Syntax.{w32, w64}
 use mir.Val.{SFits, ofZ, toZ}
 use mir.Facts.{toZ-ofZ, sfits-lit}
-use Rattle.codes.specs.Codes.{word16, cellAt}
-use Rattle.values.specs.Values.{Value, is, zeroDivisor, applyOp, packed}
+use Rattle.codes.specs.Codes.{word16}
+use Rattle.codes.specs.Numbers.{cellAt}
+use Rattle.values.specs.Values.{Value, is, zeroDivisor, applyOp}
+use Rattle.values.specs.Packed.{packed}
 use Rattle.values.proofs.Bits.{wide-fits, wide-is}
 use Rattle.values.proofs.Laws.{apply-fits}
-use Rattle.expr.specs.Tree.{Fault, byZero, badIndex, Worth, value, stop, worthOf, both, element, indexed, eval}
+use Rattle.expr.specs.Tree.{Fault, byZero, badIndex, Worth, value, stop, worthOf, element, eval}
+use Rattle.expr.specs.Agreement.{both, indexed}
 use Rattle.expr.specs.Bytes.{Got, nothing, parse}
 use Rattle.expr.specs.Answers.{packedWorth, unpacked, InCell, Packs, movedTo, arraysOf, worthAt, readAt, WorthSays, OnTheWay, Tried}
 use Rattle.expr.proofs.Agree.{worth-fits}

@@ -5,7 +5,8 @@ use mathlib.Core.Bool.{true, false}
 use Prim.Native.Nat.{ℕ, zero, suc, _+_}
 use lib.IntN.{pos, negsuc}
 use Rattle.values.specs.Values.{applyOp}
-use Rattle.expr.specs.Tree.{Expr, con, var, read, bin, depth, encode, element, eval, Worth, value, stop, byZero, badIndex, scalar, array, occurs}
+use Rattle.expr.specs.Tree.{anyName, Expr, con, var, read, bin, depth, encode, element, eval, Worth, value, stop, byZero, badIndex}
+use Rattle.expr.specs.Agreement.{scalar, array, occurs}
 use Rattle.expr.specs.Bytes.{parse, layer}
 use Rattle.expr.specs.Answers.{endOf}
 use Rattle.expr.specs.declared.End.the-variants.{At, Bad}
@@ -49,15 +50,15 @@ index-first = refl
 
 -- scalar 0 and array 0 are two names; an index and both sides are searched
 pub two-names : (occurs (scalar 0) (read 0 (con (pos 0))) ≡ false) × (occurs (array 0) (var 0) ≡ false)
-unfolding occurs
+unfolding occurs anyName
 two-names = (refl, refl)
 
 pub in-the-index : occurs (scalar 0) (read 1 (var 0)) ≡ true
-unfolding occurs
+unfolding occurs anyName
 in-the-index = refl
 
 pub on-the-left : occurs (scalar 0) (bin 0 (var 0) (con (pos 1))) ≡ true
-unfolding occurs
+unfolding occurs anyName
 on-the-left = refl
 
 -- bytes and back

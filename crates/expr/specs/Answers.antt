@@ -9,7 +9,8 @@ use lib.ListN.{take, drop}
 use lib.Dec.{ltb}
 use mir.Syntax.{w32, w64}
 use mir.Val.{SFits, ofZ}
-use Rattle.expr.specs.Tree.{Expr, depth, Valid, Arrays, Fault, byZero, badIndex, Worth, value, stop, eval, indexed, Name, scalar, array, occurs, known}
+use Rattle.expr.specs.Tree.{Expr, depth, Valid, Arrays, Fault, byZero, badIndex, Worth, value, stop, eval, known}
+use Rattle.expr.specs.Agreement.{indexed, Name, scalar, array, occurs}
 use Rattle.expr.specs.Bytes.{Stands, Got}
 use Rattle.expr.specs.declared.End.{End}
 use Rattle.expr.specs.declared.End.the-variants.{At, Bad}

@@ -7,7 +7,8 @@ use mathlib.Core.Bool.{Bool, true, false, _&&_}
 use lib.ListN.{length, getD, drop}
 use lib.Dec.{ltb, leb, eqb}
 use lib.IntN.{pos}
-use Rattle.codes.specs.Codes.{word16, cellAt}
+use Rattle.codes.specs.Codes.{word16}
+use Rattle.codes.specs.Numbers.{cellAt}
 use Rattle.expr.specs.Tree.{Expr, con, var, read, bin, encode}
 
 -- THE FORMAT: the bytes of e stand in s from at up to n

@@ -1,11 +1,10 @@
 -- Expressions as trees: how deep they are, which bytes they are, what they are worth in a store, which names they hold.
 -- Document 01, 'The program file' and 'Values'. Assumes nothing: these are definitions.
 use Prim.Native.Nat.{ℕ, _+_, _^_, _<_, max}
-use mathlib.Core.Path.{_≡_}
 use mathlib.Core.List.{List, _∷_, _++_}
-use mathlib.Core.Bool.{Bool, true, false, cond, _||_, _&&_}
+use mathlib.Core.Bool.{Bool, false, not, cond, _||_}
 use lib.ListN.{getD}
-use lib.Dec.{ltb, eqb}
+use lib.Dec.{ltb}
 use lib.IntN.{ℤ, pos, negsuc}
 use mir.Syntax.{w32}
 use mir.Val.{SFits}
@@ -59,66 +58,30 @@ abbrev pub worthOf : Value → Worth
 worthOf (is v) = value v
 worthOf zeroDivisor = stop byZero
 
--- 'both sides are always evaluated, left first'
-abbrev pub both : ℕ → Worth → Worth → Worth
-both o (stop f) r = stop f
-both o (value x) (stop f) = stop f
-both o (value x) (value y) = worthOf (applyOp o x y)
+-- what the value of a first part goes on to; what stops the part stops the whole
+abbrev pub andThen : Worth → (ℤ → Worth) → Worth
+andThen (stop f) next = stop f
+andThen (value v) next = next v
 
 -- array a at an index: it is tested, then the cell is read
 unfoldable pub element : Arrays → List ℤ → ℕ → ℤ → Worth
 element arrays cells a (pos i) = cond (ltb i (getD (arrays .lengths) a 0)) (value (getD cells (getD (arrays .starts) a 0 + i) (pos 0))) (stop badIndex)
 element arrays cells a (negsuc i) = stop badIndex
 
--- 'an array read evaluates its own index, then tests it, then reads'
-abbrev pub indexed : Arrays → List ℤ → ℕ → Worth → Worth
-indexed arrays cells a (stop f) = stop f
-indexed arrays cells a (value i) = element arrays cells a i
-
+-- 'an array read evaluates its own index, then tests it, then reads'; 'both sides are always evaluated, left first'
 unfoldable pub eval : Arrays → List ℤ → Expr → Worth
 eval arrays cells (con v) = value v
 eval arrays cells (var x) = value (getD cells x (pos 0))
-eval arrays cells (read a i) = indexed arrays cells a (eval arrays cells i)
-eval arrays cells (bin o l r) = both o (eval arrays cells l) (eval arrays cells r)
+eval arrays cells (read a i) = andThen (eval arrays cells i) (element arrays cells a)
+eval arrays cells (bin o l r) = andThen (eval arrays cells l) (λ x. andThen (eval arrays cells r) (λ y. worthOf (applyOp o x y)))
 
--- a name: a scalar or an array, by its number. Scalar 0 and array 0 are two names.
-pub data Name : Type 0 where
-  scalar : ℕ → Name
-  array : ℕ → Name
+-- a scalar that s says yes to, or an array that a does, stands somewhere in the tree, in an array read's index too
+unfoldable pub anyName : (ℕ → Bool) → (ℕ → Bool) → Expr → Bool
+anyName s a (con v) = false
+anyName s a (var x) = s x
+anyName s a (read n i) = a n || anyName s a i
+anyName s a (bin o l r) = anyName s a l || anyName s a r
 
-abbrev pub isScalar : Name → ℕ → Bool
-isScalar (scalar n) x = eqb x n
-isScalar (array n) x = false
-
-abbrev pub isArray : Name → ℕ → Bool
-isArray (scalar n) a = false
-isArray (array n) a = eqb a n
-
--- the name stands somewhere in the tree, in an array read's index too
-unfoldable pub occurs : Name → Expr → Bool
-occurs n (con v) = false
-occurs n (var x) = isScalar n x
-occurs n (read a i) = isArray n a || occurs n i
-occurs n (bin o l r) = occurs n l || occurs n r
-
--- every scalar number is below the count of scalars, every array number below that of arrays
+-- no scalar number but those below the count of scalars, no array number but those below that of arrays
 unfoldable pub known : ℕ → ℕ → Expr → Bool
-known scalars arrays (con v) = true
-known scalars arrays (var x) = ltb x scalars
-known scalars arrays (read a i) = ltb a arrays && known scalars arrays i
-known scalars arrays (bin o l r) = known scalars arrays l && known scalars arrays r
-
--- the name is one of so many scalars and arrays
-abbrev pub There : ℕ → ℕ → Name → Type 0
-There scalars arrays (scalar x) = x < scalars
-There scalars arrays (array a) = a < arrays
-
--- two stores are the same at the cells of a name: those of an array are the ones that an index can reach
-abbrev pub Same : Name → Arrays → List ℤ → List ℤ → Type 0
-Same (scalar x) arrays σ τ = getD σ x (pos 0) ≡ getD τ x (pos 0)
-Same (array a) arrays σ τ = (i : ℕ) → i < getD (arrays .lengths) a 0 → getD σ (getD (arrays .starts) a 0 + i) (pos 0) ≡ getD τ (getD (arrays .starts) a 0 + i) (pos 0)
-
--- a cell that is none of the name's
-abbrev pub Apart : Name → Arrays → ℕ → Type 0
-Apart (scalar x) arrays cell = x ≡ cell → ⊥
-Apart (array a) arrays cell = (i : ℕ) → i < getD (arrays .lengths) a 0 → getD (arrays .starts) a 0 + i ≡ cell → ⊥
+known scalars arrays e = not (anyName (λ x. not (ltb x scalars)) (λ n. not (ltb n arrays)) e)

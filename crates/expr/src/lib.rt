@@ -8,7 +8,8 @@ ghost use Prim.Native.Nat.{ℕ, _+_, _^_, _<_};
 ghost use lib.IntN.{pos};
 ghost use lib.ListN.{getD, length};
 ghost use Rattle.codes.specs.Codes.{word16};
-ghost use Rattle.expr.specs.Tree.{element, isScalar, isArray};
+ghost use Rattle.expr.specs.Tree.{element};
+ghost use Rattle.expr.specs.Agreement.{isScalar, isArray};
 ghost use Rattle.expr.specs.Bytes.{parse, whole};
 ghost use Rattle.expr.specs.Answers.{endOf, Packs, arraysOf, worthAt, readAt, WorthSays, OnTheWay, Tried, nameOf, seenOf, knownOf};
 

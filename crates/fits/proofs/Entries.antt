@@ -10,7 +10,7 @@ use lib.ListN.{length, getD, drop}
 use native.Mathlib.Omega.{arith}
 use Rattle.codes.specs.Codes.{word16, bytes16}
 use Rattle.codes.proofs.Rows.{short-back}
-use Rattle.records.specs.Records.{Record, names, begin, end, assign, if, else, fi, from, loop, until, call, uncall, skip, kind, body, encodeRecord, bytesOf, Formed, InSize, FineFrom, isBegin}
+use Rattle.records.specs.Records.{Record, names, call, uncall, skip, kind, body, encodeRecord, bytesOf, Formed, FineFrom, isBegin}
 use Rattle.order.specs.Trees.{Tree, recordsOf}
 use Rattle.program.specs.Says.{Accepts}
 use Rattle.records.specs.Walk.{offsets}
@@ -30,26 +30,10 @@ use Rattle.fits.proofs.Cases.{clash, slot-in}
 use Rattle.fits.proofs.Nest.{there}
 
 -- ---- at most 1,024 records
-in-size : (k b : ℕ) (r : Record) → InSize k b r → k < 1024
-unfolding InSize
-in-size k b (names v ls) h = h .0
-in-size k b begin h = h .0
-in-size k b end h = h
-in-size k b (assign o t e) h = h
-in-size k b (if e) h = h
-in-size k b else h = h
-in-size k b (fi e) h = h
-in-size k b (from e) h = h
-in-size k b loop h = h
-in-size k b (until e) h = h
-in-size k b (call q) h = h
-in-size k b (uncall q) h = h
-in-size k b skip h = h
-
 in-sizes : (k b : ℕ) (rs : List Record) → FineFrom k b rs → k ≤ 1024 → k + length rs ≤ 1024
 unfolding FineFrom
 in-sizes k b [] f h = omega arith
-in-sizes k b (r ∷ rs) f h = omega (arith, in-sizes (suc k) (b + isBegin (kind r)) rs (f .1 .1) (in-size k b r (f .1 .0)))
+in-sizes k b (r ∷ rs) f h = omega (arith, in-sizes (suc k) (b + isBegin (kind r)) rs (f .1 .1) (f .1 .0 .records))
 
 same-getD : {A : Type 0} (l : List A) (d e : A) (n : ℕ) → n < length l → getD l n d ≡ getD l n e
 same-getD [] d e n h = absurd (let z : ⊥ = omega arith in z)

@@ -4,7 +4,8 @@ use mathlib.Core.Path.{ap}
 use mathlib.Core.List.{List, [], _∷_, _++_}
 use lib.ListN.{length, getD, length-append}
 use native.Mathlib.Omega.{arith}
-use Rattle.order.specs.Trees.{Stmt, setS, skipS, callS, uncallS, ifS, fromS, Block, one, _then_, Tree, procedures, openS, openB, openP}
+use Rattle.order.specs.Trees.{Stmt, setS, skipS, callS, uncallS, ifS, fromS, Block, one, _then_, Tree, procedures}
+use Rattle.order.proofs.OrderOpen.{openS, openB, openP, nested-open}
 use Rattle.program.specs.Says.{Accepts}
 use Rattle.moves.specs.Edges.{Frame}
 use Rattle.moves.specs.Places.{Place, Fits}
@@ -65,5 +66,5 @@ pub frames-few : {f : List ℕ} {t : Tree} → Accepts f t → (p : Place) → F
 frames-few {f} {t} a p y =
     let k = fits-placed t (accepted-wf a) p y in
     let e = ap (λ (x : Place). length (x .frames)) (k .is) in
-    let s = shallow t (a .ordered .nested) in
+    let s = shallow t (nested-open (a .ordered)) in
     omega (arith, s (k .cut .g), length-append (prog t .encl (k .cut .g)) (stack (prog t) (k .cut .cs)), stack-few (prog t) s (k .cut .cs), k .sits .few)

@@ -11,11 +11,11 @@ use native.Mathlib.Nat.{zero-add}
 use borrow.Author.Tests.{eq-eqb, ne-eqb, lt-ltb, ltb-true, ltb-false, le-leb, lt-leb}
 use Rattle.place.specs.Places.{Dir, down, up, opp, Frame, called, frameKind, frameLabel}
 use Rattle.place.specs.Slots.{dirNumber, held}
-use Rattle.records.specs.Records.{Record, names, begin, end, assign, if, else, fi, from, loop, until, call, uncall, skip, kind, begins, isBegin, InSize, FineFrom, there}
+use Rattle.records.specs.Records.{Record, names, begin, end, assign, if, else, fi, from, loop, until, call, uncall, skip, kind, begins, isBegin, InSize, FineFrom}
 use Rattle.order.specs.Trees.{Stmt, setS, skipS, callS, uncallS, ifS, fromS, Block, one, _then_, Tree, procedures, recordsS, recordsB, recordsP, recordsOf}
 use Rattle.program.specs.Says.{Accepts, thereIn}
-use Rattle.records.specs.Faults.{word}
-use Rattle.records.specs.Reading.{recordAs}
+use Rattle.records.specs.Walk.{word}
+use Rattle.records.specs.Reading.{recordAs, there}
 use Rattle.moves.specs.Labels.{at}
 use Rattle.moves.specs.Stores.{atEnd, tooDeep, Answer, ok, no, Store}
 use Rattle.moves.proofs.Linked.{Rec, nameL, beginL, endL, setL, skipL, ifL, elseL, fiL, fromL, loopL, untilL, callL, uncallL, Prog, forget, side, gateL, resume}
@@ -50,9 +50,9 @@ procs-begin [] = omega arith
 procs-begin (b ∷ bs) = simp begins-append (omega (arith, procs-begin bs))
 
 one-more : (k b : ℕ) (r : Record) → b ≤ 64 → InSize k b r → b + isBegin (kind r) ≤ 64
-unfolding InSize kind
+unfolding kind
 one-more k b (names v ls) h s = omega arith
-one-more k b begin h s = omega arith
+one-more k b begin h s = omega (arith, s .procedures refl)
 one-more k b end h s = omega arith
 one-more k b (assign o t e) h s = omega arith
 one-more k b (if e) h s = omega arith
@@ -114,11 +114,9 @@ module _ {f : List ℕ} {t : Tree} (A : Accepts f t) {tab : List ℕ} (T : Table
   numbered x h r e = subst (λ r. thereIn t r ≡ true) (getD-any (recordsOf t) x skip (names 0 []) h ∙ e) (A .numbers x h)
 
   pub call-there : (x q : ℕ) → x < length (recordsOf t) → P .at x ≡ callL q → q < length (procedures t)
-  unfolding there
   call-there x q h e = ltb-true q _ (and-true (ltb 0 q) (ltb q (length (procedures t))) (numbered x h (call q) (at-is t x ∙ ap forget e)) .1)
 
   pub uncall-there : (x q : ℕ) → x < length (recordsOf t) → P .at x ≡ uncallL q → q < length (procedures t)
-  unfolding there
   uncall-there x q h e = ltb-true q _ (and-true (ltb 0 q) (ltb q (length (procedures t))) (numbered x h (uncall q) (at-is t x ∙ ap forget e)) .1)
 
   module _ (g : ℕ) (d : Dir) (cs : List ℕ) (σ : Store) (F : Sits P (record { g = g; d = d; cs = cs })) (q : ℕ) (d′ : Dir) (k : ProcOk P q) (o : SimpleOk P (met g d))

@@ -9,10 +9,10 @@ use lib.Dec.{ltb}
 use native.Mathlib.Omega.{arith}
 use borrow.Author.Tests.{lt-ltb, ltb-false, ltb-true}
 use Rattle.place.specs.Slots.{dirNumber}
-use Rattle.records.specs.Records.{Record, names, begin, end, assign, if, else, fi, from, loop, until, call, uncall, skip, kind, body, encodeRecord, bytesOf, Formed, InSize, FineFrom}
+use Rattle.records.specs.Records.{Record, names, skip, kind, body, encodeRecord, Formed, FineFrom}
 use Rattle.order.specs.Trees.{Tree, recordsOf}
 use Rattle.program.specs.Says.{Accepts}
-use Rattle.records.specs.Faults.{word}
+use Rattle.records.specs.Walk.{word}
 use Rattle.records.specs.Reading.{recordAs}
 use Rattle.records.specs.Walk.{offsets}
 use Rattle.records.proofs.Offsets.{record-at, word-is, short-is, size-of}
@@ -41,26 +41,10 @@ formed-at k b [] f x h = absurd (omega arith)
 formed-at k b (r ∷ rs) f zero h = f .0
 formed-at k b (r ∷ rs) f (suc x) h = formed-at _ _ rs (f .1 .1) x (omega arith)
 
-in-size : (k b : ℕ) (r : Record) → InSize k b r → k < 1024
-unfolding InSize
-in-size k b (names v ls) h = h .0
-in-size k b begin h = h .0
-in-size k b end h = h
-in-size k b (assign o t e) h = h
-in-size k b (if e) h = h
-in-size k b else h = h
-in-size k b (fi e) h = h
-in-size k b (from e) h = h
-in-size k b loop h = h
-in-size k b (until e) h = h
-in-size k b (call q) h = h
-in-size k b (uncall q) h = h
-in-size k b skip h = h
-
 few : (k b : ℕ) (rs : List Record) → k ≤ 1024 → FineFrom k b rs → k + length rs ≤ 1024
 unfolding FineFrom
 few k b [] h f = omega arith
-few k b (r ∷ rs) h f = omega (arith, few (suc k) _ rs (in-size k b r (f .1 .0)) (f .1 .1))
+few k b (r ∷ rs) h f = omega (arith, few (suc k) _ rs (f .1 .0 .records) (f .1 .1))
 
 not-names : (ρ : Rec) (v : ℕ) (ls : List ℕ) → forget ρ ≡ names v ls → (x : ℕ) (τ : Tree) (P : Prog) → Local τ P ρ x → (q : ℕ) → P .first q ≤ x → x ≤ P .last q → ⊥
 not-names (nameL a b) v ls e x τ P l q lo hi = l q lo hi

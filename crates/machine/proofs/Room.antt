@@ -4,7 +4,8 @@ use mathlib.Core.Path.{_≡_, refl, sym, ap, _∙_}
 use mathlib.Core.List.{List, [], _∷_, _++_}
 use lib.ListN.{length, getD, length-append}
 use native.Mathlib.Omega.{arith}
-use Rattle.order.specs.Trees.{Stmt, setS, skipS, callS, uncallS, ifS, fromS, Block, one, _then_, Tree, procedures, openS, openB, openP}
+use Rattle.order.specs.Trees.{Stmt, setS, skipS, callS, uncallS, ifS, fromS, Block, one, _then_, Tree, procedures}
+use Rattle.order.proofs.OrderOpen.{openS, openB, openP, nested-open}
 use Rattle.program.specs.Says.{Accepts}
 use Rattle.moves.specs.Edges.{Frame, inThen, inElse, inDo, inLoop}
 use Rattle.moves.specs.Places.{Place, Fits}
@@ -55,7 +56,7 @@ short-getD (ρ ∷ R) (suc x) h = short-getD R x (h .1)
 module _ {f : List ℕ} {t : Tree} (A : Accepts f t) where
   pub encl-room : (x : ℕ) → length (prog t .encl x) ≤ 16
   unfolding prog rowsOf
-  encl-room x = short-getD (rowsOf t) x (omega arith, shortP (procedures t) 0 1 (A .ordered .nested))
+  encl-room x = short-getD (rowsOf t) x (omega arith, shortP (procedures t) 0 1 (nested-open (A .ordered)))
 
   pub stack-room : (cs : List ℕ) → length (stack (prog t) cs) ≤ 17 * length cs
   stack-room [] = omega arith

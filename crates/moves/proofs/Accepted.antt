@@ -8,9 +8,10 @@ use lib.Dec.{ltb}
 use native.Mathlib.Omega.{arith}
 use borrow.Author.Tests.{ltb-true}
 use Rattle.expr.specs.Tree.{known}
-use Rattle.records.specs.Records.{Record, end, else, fi, loop, until, Formed, FineFrom, thereTarget, there, ownTarget, own}
+use Rattle.records.specs.Records.{Record, end, else, fi, loop, until, Formed, FineFrom, thereTarget, ownTarget}
+use Rattle.records.specs.Reading.{free, there}
 use Rattle.order.specs.Trees.{Stmt, setS, skipS, callS, uncallS, ifS, fromS, Block, one, _then_, Tree, procedures, recordsS, recordsB, recordsP, recordsOf}
-use Rattle.program.specs.Says.{All, thereIn, free, Accepts}
+use Rattle.program.specs.Says.{All, thereIn, Accepts}
 use Rattle.moves.proofs.Cuts.{Undoes, Wf}
 use Rattle.moves.proofs.Rows.{prog}
 use Rattle.moves.proofs.Locals.{FineS, FineB}
@@ -51,7 +52,7 @@ module _ (τ : Tree) where
   called q h = ltb-true q (length (procedures τ)) (and-true (ltb 0 q) (ltb q (length (procedures τ))) h .1)
 
   mutual
-    unfolding recordsS Formed there own
+    unfolding recordsS Formed
 
     fineS : (s : Stmt) → Every τ (recordsS s) → FineS s There (Undoes τ)
     fineS (setS o x e) h =

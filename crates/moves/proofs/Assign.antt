@@ -12,7 +12,8 @@ use borrow.Author.Tests.{ltb-true, ltb-false, eqb-true, eqb-false}
 use mir.Syntax.{w32}
 use mir.Val.{SFits}
 use Rattle.values.proofs.Laws.{undo-sum, undo-difference, undo-exclusive, sum-fits, difference-fits, exclusive-fits}
-use Rattle.expr.specs.Tree.{Expr, Valid, Worth, value, stop, eval, Name, scalar, array, occurs, known, There, Same}
+use Rattle.expr.specs.Tree.{Expr, Valid, Worth, value, stop, eval, known}
+use Rattle.expr.specs.Agreement.{Name, scalar, array, occurs, There, Same}
 use Rattle.expr.specs.Answers.{InCell}
 use Rattle.expr.proofs.Agree.{eval-keeps, eval-fits}
 use Rattle.records.specs.Records.{Target, cell, entry, thereTarget, ownTarget, sum}
@@ -144,12 +145,13 @@ module _ (τ : Tree) where
   -- The target stays where it was, and the expression keeps its value.
   cell-kept : (σ : Store) (y : ℤ) (x : Target) (e : Expr) (c : ℕ) → Owns (nameOf x) c → thereTarget (τ .scalars) arrays x ≡ true → ownTarget x e ≡ false
       → cellOf τ σ x ≡ cellOf τ (put σ c y) x
-  unfolding cellOf bind
+  unfolding cellOf bind occurs
   cell-kept σ y (cell x) e c o t f = refl
   cell-kept σ y (entry a i) e c o t f =
       ap (λ r. bind r (λ v. entryAt τ a v)) (eval-kept (array a) c o σ y i (and-true (ltb a arrays) (known (τ .scalars) arrays i) t .1) (either-false (occurs (array a) i) (occurs (array a) e) f .0))
 
   own-right : (x : Target) (e : Expr) → ownTarget x e ≡ false → occurs (nameOf x) e ≡ false
+  unfolding occurs
   own-right (cell x) e f = f
   own-right (entry a i) e f = either-false (occurs (array a) i) (occurs (array a) e) f .1
 

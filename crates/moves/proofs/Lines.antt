@@ -1,11 +1,11 @@
 -- The definitions computed: document 01's worked runs, forth and back.
-use mathlib.Core.List.{[], _∷_}
+use mathlib.Core.List.{[], _∷_, flatMap}
 use mathlib.Core.Path.{_≡_, refl}
 use lib.ListN.{length}
 use lib.IntN.{pos}
 use Rattle.values.specs.Values.{wrap, applyOp}
 use Rattle.expr.specs.Tree.{con, var, bin, encode, eval}
-use Rattle.records.specs.Records.{cell, kind, words, body, encodeRecord, bytesOf}
+use Rattle.records.specs.Records.{cell, kind, body, encodeRecord, bytesOf}
 use Rattle.order.specs.Trees.{Tree, setS, skipS, callS, fromS, one, _then_, recordsOf, recordsP, recordsS}
 use Rattle.moves.specs.Labels.{sizeS}
 use Rattle.moves.specs.Edges.{edgesS, edgesP}
@@ -26,7 +26,7 @@ counting = record {
 
 -- "the 76 byte file"
 counting-bytes : length (bytesOf (recordsOf counting)) ≡ 76
-unfolding bytesOf encodeRecord body words kind encode recordsOf recordsP recordsS
+unfolding bytesOf encodeRecord body flatMap kind encode recordsOf recordsP recordsS
 counting-bytes = refl
 
 abbrev last : Place

@@ -11,7 +11,8 @@ use lib.IntN.{ℤ, pos, negsuc}
 use native.Mathlib.Omega.{arith}
 use borrow.Author.Tests.{ltb-true, ltb-false}
 use Rattle.values.specs.Values.{Value, is, zeroDivisor as noValue, isTrue, divided, applyOp}
-use Rattle.expr.specs.Tree.{Expr, con, var, read, bin, Fault, byZero, badIndex as outside, Worth, value, stop, worthOf, both, indexed, element, eval}
+use Rattle.expr.specs.Tree.{Expr, con, var, read, bin, Fault, byZero, badIndex as outside, Worth, value, stop, worthOf, element, eval}
+use Rattle.expr.specs.Agreement.{both, indexed}
 use Rattle.order.specs.Trees.{Tree}
 use Rattle.moves.specs.Stores.{Store, layout}
 use Rattle.moves.specs.Reasons.{Misses, Stops, in-read, misses, in-left, in-right, divides}

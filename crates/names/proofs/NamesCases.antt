@@ -7,12 +7,13 @@ use native.Mathlib.Omega.{arith}
 use lib.ListN.{getD}
 use lib.Dec.{ltb}
 use borrow.Author.Tests.{lt-ltb, le-ltb, ne-eqb}
-use Rattle.expr.specs.Tree.{known, occurs, scalar, array}
+use Rattle.expr.specs.Tree.{known}
+use Rattle.expr.specs.Agreement.{occurs, scalar, array}
 use Rattle.expr.specs.Bytes.{whole}
 use Rattle.expr.specs.Answers.{knownOf, seenOf}
 use Rattle.expr.specs.declared.Known.{Known}
 use Rattle.expr.specs.declared.Seen.{Seen}
-use Rattle.records.specs.Faults.{word}
+use Rattle.records.specs.Walk.{word}
 use Rattle.records.specs.Walk.{kindAt}
 use Rattle.records.specs.Reading.{tests, calls}
 use Rattle.names.specs.Names.{exprAt, past, thereScalar, thereArray, thereSet, thereCall, thereAt, freeScalar, freeArray, freeAt, passes}

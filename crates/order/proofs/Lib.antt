@@ -1,6 +1,7 @@
 -- The laws of the order of records.
 pub mod OrderStarred
 pub mod OrderParts
+pub mod OrderOpen
 pub mod OrderReads
 pub mod OrderText
 pub mod OrderSays

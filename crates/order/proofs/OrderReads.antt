@@ -11,7 +11,8 @@ use borrow.Author.Tests.{lt-ltb, le-ltb, leb-true, leb-false}
 use lib.Dec.{leb}
 use Rattle.expr.specs.Tree.{Expr}
 use Rattle.records.specs.Records.{Record, end, assign, call, uncall, skip}
-use Rattle.order.specs.Trees.{Stmt, setS, skipS, callS, uncallS, ifS, fromS, Block, one, _then_, Tree, recordsS, recordsB, recordsP, recordsOf, procedures, openS, openB, openP}
+use Rattle.order.specs.Trees.{Stmt, setS, skipS, callS, uncallS, ifS, fromS, Block, one, _then_, Tree, recordsS, recordsB, recordsP, recordsOf, procedures}
+use Rattle.order.proofs.OrderOpen.{openS, openB, openP, regroup}
 use Rattle.order.proofs.OrderParts.{opener, middle, closer, construct, Layer, first, second, Part, nothing, dead, between, within, frames, height, app, add, grow, reads, dies}
 
 add-add : (a : Option Block) (s : Stmt) (b : Block) → add (add a (one s)) b ≡ add a (_then_ s b)
@@ -22,9 +23,6 @@ add-add (some x) s b = ap some (go x)
     go : (x : Block) → app (app x (one s)) b ≡ app x (_then_ s b)
     go (one r) = refl
     go (_then_ r x) = ap (_then_ r) (go x)
-
-regroup : (x y : List Record) (m c : Record) (r : List Record) → (x ++ (m ∷ (y ++ (c ∷ [])))) ++ r ≡ x ++ (m ∷ (y ++ (c ∷ r)))
-regroup x y m c r = simp append-assoc
 
 pub le-or-lt : (m n : ℕ) → (m ≤ n) ⊎ (n < m)
 le-or-lt m n = go (leb m n) refl

@@ -10,12 +10,13 @@ use native.Mathlib.Omega.{arith}
 use lib.ListN.{length, take, drop, take-append-drop}
 use lib.Seq.{take-take, take-length}
 use Rattle.records.specs.Records.{Record}
-use Rattle.order.specs.Trees.{Block, Tree, recordsOf, procedures, openP, Ordered, Viable}
+use Rattle.order.specs.Trees.{Block, Tree, recordsOf, procedures, Ordered, Viable}
 use Rattle.order.specs.Trees.{Misplaced as SaysMisplaced, no-order, too-soon}
 use Rattle.order.specs.Order.{at, is, kinds, orderFrom, orderOf}
 use Rattle.order.specs.declared.Placed.{Placed}
 use Rattle.order.specs.declared.Placed.the-variants.{InOrder, Misplaced}
 use Rattle.order.proofs.OrderParts.{Part, nothing, dead, between, within, grow, reads, shape, shape-grow, reads-dead, reads-append}
+use Rattle.order.proofs.OrderOpen.{openP, nested-open, open-nested}
 use Rattle.order.proofs.OrderReads.{le-or-lt, reads-tree, reads-over}
 use Rattle.order.proofs.OrderText.{Text, text, reads-text, finish, finishes}
 
@@ -50,14 +51,14 @@ tree : ℕ → List ℕ → Block → List Block → Tree
 tree v ls b bs = record { scalars = v; lengths = ls; main = b; others = bs }
 
 pub ordered-reads : (rs : List Record) (t : Tree) → Ordered rs t → reads nothing rs ≡ between (t .scalars) (t .lengths) (procedures t)
-ordered-reads rs t o = subst (λ x. reads nothing x ≡ between (t .scalars) (t .lengths) (procedures t)) (o .records) (reads-tree t (o .nested))
+ordered-reads rs t o = subst (λ x. reads nothing x ≡ between (t .scalars) (t .lengths) (procedures t)) (o .records) (reads-tree t (nested-open o))
 
 pub reads-ordered : (rs : List Record) → shape (reads nothing rs) ≡ at 2 [] → (t : Tree) × Ordered rs t
 unfolding shape text recordsOf tree
 reads-ordered rs e = go (reads nothing rs) refl (reads-text rs [] nothing refl) (ap (λ s. is s 2) e)
   where
     nested : (t : Tree) → recordsOf t ≡ rs → (reads nothing rs ≡ dead → ⊥) → Ordered rs t
-    nested t h live = record { records = h; nested = ⊎-elim (λ x. x) (λ x. absurd (live (ap (λ y. reads nothing y) (sym h) ∙ reads-over t x))) (le-or-lt (openP (procedures t)) 16) }
+    nested t h live = open-nested rs t h (⊎-elim (λ x. x) (λ x. absurd (live (ap (λ y. reads nothing y) (sym h) ∙ reads-over t x))) (le-or-lt (openP (procedures t)) 16))
 
     go : (p : Part) → reads nothing rs ≡ p → Text rs p → is (shape p) 2 ≡ true → (t : Tree) × Ordered rs t
     go nothing q x e = no (cc)
@@ -69,14 +70,14 @@ reads-ordered rs e = go (reads nothing rs) refl (reads-text rs [] nothing refl) 
 
 -- ---- Viable: exactly what is not dead.
 pub live-viable : (rs : List Record) → (reads nothing rs ≡ dead → ⊥) → Viable rs
-live-viable rs live = record { further = finish (reads nothing rs); tree = whole .0; ordered = whole .1 }
+live-viable rs live = (finish (reads nothing rs), whole .0, whole .1)
   where
     whole : (t : Tree) × Ordered (rs ++ finish (reads nothing rs)) t
     whole = reads-ordered (rs ++ finish (reads nothing rs)) (ap shape (reads-append rs (finish (reads nothing rs)) nothing) ∙ finishes (reads nothing rs) live)
 
 pub viable-live : (rs : List Record) → Viable rs → reads nothing rs ≡ dead → ⊥
-viable-live rs u d = let x = ordered-reads (rs ++ u .further) (u .tree) (u .ordered) in let y = reads-append rs (u .further) nothing in let z = reads-dead (u .further) in
-    let w : reads (reads nothing rs) (u .further) ≡ reads dead (u .further) = ap (λ p. reads p (u .further)) d in no (cc)
+viable-live rs u d = let x = ordered-reads (rs ++ u .0) (u .1) (u .2) in let y = reads-append rs (u .0) nothing in let z = reads-dead (u .0) in
+    let w : reads (reads nothing rs) (u .0) ≡ reads dead (u .0) = ap (λ p. reads p (u .0)) d in no (cc)
 
 -- ---- The check's answer, in terms of what is read: n records are before p, and rs is left.
 record Stuck (n : ℕ) (p : Part) (rs : List Record) (k : ℕ) : Type 0 where
@@ -143,7 +144,7 @@ order-misplaced rs k e = ⊎-elim stuck short (answer rs (Misplaced k) e)
         subst (λ j. SaysMisplaced rs j) z (too-soon (live-viable rs (h .live)) (λ t o. let w = tree-whole rs t o in let x = h .unfinished in no (cc)))
 
 append-viable : (xs ys : List Record) → Viable (xs ++ ys) → Viable xs
-append-viable xs ys u = record { further = ys ++ u .further; tree = u .tree; ordered = subst (λ x. Ordered x (u .tree)) (append-assoc xs ys (u .further)) (u .ordered) }
+append-viable xs ys u = (ys ++ u .0, u .1, subst (λ x. Ordered x (u .1)) (append-assoc xs ys (u .0)) (u .2))
 
 take-viable : (rs : List Record) (i : ℕ) → Viable rs → Viable (take i rs)
 take-viable rs i u = append-viable (take i rs) (drop i rs) (subst Viable (sym (take-append-drop i rs)) u)
@@ -176,7 +177,7 @@ misplaced-unique rs k j a b = go (misplaced-last rs k a) (misplaced-last rs j b)
         (le-or-lt k j)
 
 misplaced-not-ordered : (rs : List Record) (k : ℕ) (t : Tree) → SaysMisplaced rs k → Ordered rs t → ⊥
-misplaced-not-ordered rs k t (no-order h u d) o = d (take-viable rs (suc k) (record { further = []; tree = t; ordered = subst (λ x. Ordered x t) (sym (append-nil rs)) o }))
+misplaced-not-ordered rs k t (no-order h u d) o = d (take-viable rs (suc k) ([], t, subst (λ x. Ordered x t) (sym (append-nil rs)) o))
 misplaced-not-ordered rs k t (too-soon u d) o = d t o
 
 pub ordered-order : (rs : List Record) (t : Tree) → Ordered rs t → orderOf (kinds rs) ≡ InOrder

@@ -1,10 +1,12 @@
 -- Document 01, 'Order': programs as trees, and the records that a tree is written as.
-use Prim.Native.Nat.{ℕ, suc, _+_, _≤_, _<_, max}
+use Prim.Native.Nat.{ℕ, suc, _+_, _-_, _≤_, _<_, max}
+use mathlib.Core.Bool.{cond, _||_}
 use mathlib.Core.List.{List, [], _∷_, _++_}
 use mathlib.Core.Path.{_≡_}
+use lib.Dec.{eqb}
 use lib.ListN.{length, take}
 use Rattle.expr.specs.Tree.{Expr}
-use Rattle.records.specs.Records.{Target, Record, names, begin, end, assign, if, else, fi, from, loop, until, call, uncall, skip, bytesOf, sum}
+use Rattle.records.specs.Records.{Target, Record, names, begin, end, assign, if, else, fi, from, loop, until, call, uncall, skip, kind, sum}
 
 mutual
   -- "SET, CALL, UNCALL, SKIP, IF s ELSE s FI, FROM s LOOP s UNTIL"
@@ -49,23 +51,13 @@ procedures t = t .main ∷ t .others
 unfoldable pub recordsOf : Tree → List Record
 recordsOf t = names (t .scalars) (t .lengths) ∷ recordsP (procedures t)
 
--- How many IF and FROM are open at once.
-unfoldable mutual
-  pub openS : Stmt → ℕ
-  openS (setS o t e) = 0
-  openS skipS = 0
-  openS (callS q) = 0
-  openS (uncallS q) = 0
-  openS (ifS e s t e′) = suc (max (openB s) (openB t))
-  openS (fromS e s t e′) = suc (max (openB s) (openB t))
+-- How many IF and FROM (kinds 5, 8) are open at once, where n are open before these records; FI and UNTIL (7, 10) close one.
+abbrev pub opened : ℕ → ℕ → ℕ
+opened n k = cond (eqb k 5 || eqb k 8) (suc n) (cond (eqb k 7 || eqb k 10) (n - 1) n)
 
-  pub openB : Block → ℕ
-  openB (one s) = openS s
-  openB (_then_ s b) = max (openS s) (openB b)
-
-unfoldable pub openP : List Block → ℕ
-openP [] = 0
-openP (b ∷ bs) = max (openB b) (openP bs)
+unfoldable pub mostOpen : ℕ → List Record → ℕ
+mostOpen n [] = n
+mostOpen n (r ∷ rs) = max n (mostOpen (opened n (kind r)) rs)
 
 -- "cells (V plus all lengths)"
 abbrev pub cells : Tree → ℕ
@@ -74,13 +66,11 @@ cells t = t .scalars + sum (t .lengths)
 -- The records rs in an order that is valid: those of the tree t, at most 16 IF and FROM open at once.
 pub record Ordered (rs : List Record) (t : Tree) : Type 0 where
   pub records : recordsOf t ≡ rs
-  pub nested : openP (procedures t) ≤ 16
+  pub nested : mostOpen 0 rs ≤ 16
 
 -- Some order of further records is valid.
-pub record Viable (rs : List Record) : Type 0 where
-  pub further : List Record
-  pub tree : Tree
-  pub ordered : Ordered (rs ++ further) tree
+abbrev pub Viable : List Record → Type 0
+Viable rs = (further : List Record) × (t : Tree) × Ordered (rs ++ further) t
 
 -- 6: "the first record after which no order of further records is valid, or the record count where the file stops too soon"
 pub data Misplaced (rs : List Record) : ℕ → Type 0 where

@@ -5,7 +5,7 @@ use Prim.Native.Nat.{ℕ, zero, suc, _+_, _-_, _%_, _≤_, min}
 use native.Mathlib.Omega.{arith}
 use lib.ListN.{length, getD, take, drop, replicate, length-append, length-replicate, replicate-append-replicate}
 use lib.Seq.{sets, sets-eq, take-at, drop-at, drop-drop}
-use Rattle.records.specs.Records.{InSize, sum}
+use Rattle.records.specs.Records.{sum}
 use Rattle.order.specs.Trees.{Tree, recordsOf}
 use Rattle.program.specs.Says.{Accepts}
 use Rattle.program.specs.Arrays.{startsFrom, arraysAt}
@@ -89,12 +89,10 @@ module _ (f : List ℕ) (t : Tree) (A : Accepts f t) where
   D = declares f (recordsOf t) (A .rows) t (A .ordered)
 
   few : length (t .lengths) ≤ 16
-  unfolding InSize
-  few = D .sized .1 .1 .0
+  few = D .sized .cells _ _ refl .1 .0
 
   fits : t .scalars + sum (t .lengths) ≤ 2048
-  unfolding InSize
-  fits = D .sized .1 .1 .1 .1
+  fits = D .sized .cells _ _ refl .1 .1 .1
 
   arrays-are : arraysAt f ≡ sets (sets (zeroes 32) 0 (starting (t .scalars) (t .lengths))) 16 (t .lengths)
   unfolding arraysAt

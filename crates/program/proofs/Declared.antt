@@ -1,12 +1,13 @@
 -- What the first record of an ordered row, NAMES, declares, read from the file's first bytes.
 use mathlib.Core.Path.{_≡_, sym, ap, subst, _∙_}
-use mathlib.Core.List.{List, _++_}
+use mathlib.Core.List.{List, _++_, flatMap}
 use Prim.Native.Nat.{ℕ}
 use lib.ListN.{length, drop}
 use Rattle.codes.proofs.Rows.{short-back}
 use Rattle.records.specs.Records.{Record, names, kind, body, encodeRecord, bytesOf, Formed, InSize, FineFrom}
 use Rattle.order.specs.Trees.{Tree, recordsP, recordsOf, procedures, Ordered}
-use Rattle.records.specs.Faults.{word, Rows}
+use Rattle.records.specs.Faults.{Rows}
+use Rattle.records.specs.Walk.{word}
 use Rattle.records.specs.Reading.{shortsAt}
 use Rattle.records.proofs.Bytes.{front-rest, shorts-back}
 
@@ -26,7 +27,7 @@ module _ (f : List ℕ) (rs : List Record) (R : Rows f rs) (t : Tree) (O : Order
   head-fine = let F = subst (λ (x : List Record). FineFrom 0 0 x) (sym (O .records)) (R .fine) in (F .0, F .1 .0)
 
   pub declares : Declares f t
-  unfolding encodeRecord body kind Formed
+  unfolding encodeRecord body kind Formed flatMap
   declares =
       let F = head-fine .0 in
       record {

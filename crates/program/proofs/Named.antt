@@ -6,14 +6,14 @@ use Prim.Native.Nat.{ℕ, _+_, _^_, _<_}
 use lib.ListN.{length, getD, drop}
 use lib.Dec.{ltb, eqb}
 use Rattle.codes.proofs.Rows.{byte-of, short-back}
-use Rattle.expr.specs.Tree.{Expr, encode, known, occurs, scalar, array}
+use Rattle.expr.specs.Tree.{Expr, encode, known}
+use Rattle.expr.specs.Agreement.{occurs, scalar, array}
 use Rattle.expr.specs.Bytes.{Stands, Got, whole}
 use Rattle.expr.proofs.Format.{got, whole-of}
-use Rattle.records.specs.Records.{cell, entry, Record, names, begin, end, assign, if, else, fi, from, loop, until, call, uncall, skip, kind, body, encodeRecord, Plain, Formed, there, own}
-use Rattle.records.specs.Faults.{word}
-use Rattle.program.specs.Says.{free}
+use Rattle.records.specs.Records.{cell, entry, Record, names, begin, end, assign, if, else, fi, from, loop, until, call, uncall, skip, kind, body, encodeRecord, Plain, Formed}
+use Rattle.records.specs.Walk.{word}
 use Rattle.records.specs.Walk.{kindAt}
-use Rattle.records.specs.Reading.{tests, calls}
+use Rattle.records.specs.Reading.{tests, calls, free, there}
 use Rattle.names.specs.Names.{exprAt, past, thereScalar, thereArray, thereCall, thereAt, freeScalar, freeArray, freeAt}
 use Rattle.records.proofs.Bytes.{front-rest, after}
 use Rattle.records.proofs.Offsets.{kind-is}
@@ -108,7 +108,7 @@ module _ (f : List ℕ) (at : ℕ) (y : List ℕ) where
 
   module _ (v a p : ℕ) where
     pub there-at : (r : Record) → Formed r → length (encodeRecord r) < 2 ^ 16 → drop at f ≡ encodeRecord r ++ y → thereAt f at v a p ≡ there v a p r
-    unfolding Formed there kind body
+    unfolding Formed kind body
     there-at (names w ls) F s D = there-none f at 1 (kind-is f at _ y s D) v a p refl refl refl
     there-at begin F s D = there-none f at 2 (kind-is f at _ y s D) v a p refl refl refl
     there-at end F s D = there-none f at 3 (kind-is f at _ y s D) v a p refl refl refl
@@ -131,7 +131,7 @@ module _ (f : List ℕ) (at : ℕ) (y : List ℕ) where
     there-at skip F s D = there-none f at 13 (kind-is f at _ y s D) v a p refl refl refl
 
   pub free-at : (r : Record) → Formed r → length (encodeRecord r) < 2 ^ 16 → drop at f ≡ encodeRecord r ++ y → freeAt f at ≡ free r
-  unfolding Formed own kind body
+  unfolding Formed occurs kind body
   free-at (names w ls) F s D = free-none f at 1 (kind-is f at _ y s D) refl
   free-at begin F s D = free-none f at 2 (kind-is f at _ y s D) refl
   free-at end F s D = free-none f at 3 (kind-is f at _ y s D) refl

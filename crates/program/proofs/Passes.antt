@@ -6,8 +6,9 @@ use Prim.Native.Nat.{ℕ, zero, suc, _+_, _^_, _<_}
 use native.Mathlib.Nat.{add-zero}
 use native.Mathlib.Omega.{arith}
 use lib.ListN.{length, getD}
-use Rattle.records.specs.Records.{Record, skip, Formed, FineFrom, there}
-use Rattle.program.specs.Says.{FirstNot, All, free}
+use Rattle.records.specs.Records.{Record, skip, Formed, FineFrom}
+use Rattle.records.specs.Reading.{free, there}
+use Rattle.program.specs.Says.{FirstNot, All}
 use Rattle.records.specs.Faults.{Rows}
 use Rattle.records.specs.Walk.{offsets}
 use Rattle.names.specs.Names.{thereAt, freeAt, firstFrom, firstNot}

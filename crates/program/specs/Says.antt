@@ -2,9 +2,9 @@
 use Prim.Native.Nat.{ℕ, _≤_, _<_}
 use mathlib.Core.List.{List, _++_}
 use mathlib.Core.Path.{_≡_}
-use mathlib.Core.Bool.{Bool, true, false, not}
+use mathlib.Core.Bool.{Bool, true, false}
 use lib.ListN.{length, getD}
-use Rattle.records.specs.Records.{Record, skip, bytesOf, FineFrom, begins, there, own}
+use Rattle.records.specs.Records.{Record, skip, row, bytesOf, FineFrom, begins}
 use Rattle.records.specs.Faults.{Wrong, Rows}
 use Rattle.order.specs.Trees.{Tree, recordsOf, procedures, cells, Ordered, Misplaced}
 use Rattle.program.specs.declared.Checked.{Checked}
@@ -39,19 +39,16 @@ pub record FirstNot (p : Record → Bool) (rs : List Record) (k : ℕ) : Type 0 
 abbrev pub All : (Record → Bool) → List Record → Type 0
 All p rs = (j : ℕ) → j < length rs → p (getD rs j skip) ≡ true
 
--- In the file t: the numbers are there; the SETs are free of their own names.
+-- In the file t the record's numbers are there.
 abbrev pub thereIn : Tree → Record → Bool
-thereIn t r = there (t .scalars) (length (t .lengths)) (length (procedures t)) r
-
-abbrev pub free : Record → Bool
-free r = not (own r)
+thereIn t r = row r .there (t .scalars) (length (t .lengths)) (length (procedures t))
 
 -- A file that is accepted, and the tree that it is the file of.
 pub record Accepts (f : List ℕ) (t : Tree) : Type 0 where
   pub rows : Rows f (recordsOf t)
   pub ordered : Ordered (recordsOf t) t
   pub numbers : All (thereIn t) (recordsOf t)
-  pub owns : All free (recordsOf t)
+  pub owns : All (λ r. row r .free) (recordsOf t)
 
 -- "1 is asked first, with record 0. Then each record in turn is asked 2, 3, 4, 5. Then over all records 6, then 7, then 8."
 pub data Says (f : List ℕ) : Given → Type 0 where
@@ -60,5 +57,5 @@ pub data Says (f : List ℕ) : Given → Type 0 where
       → Wrong (length rs) (begins rs) rest n → Says f (fault n (length rs))
   order : {k : ℕ} → (rs : List Record) → Rows f rs → Misplaced rs k → Says f (fault 6 k)
   not-there : {k : ℕ} → (rs : List Record) (t : Tree) → Rows f rs → Ordered rs t → FirstNot (thereIn t) rs k → Says f (fault 7 k)
-  own-name : {k : ℕ} → (rs : List Record) (t : Tree) → Rows f rs → Ordered rs t → All (thereIn t) rs → FirstNot free rs k → Says f (fault 8 k)
+  own-name : {k : ℕ} → (rs : List Record) (t : Tree) → Rows f rs → Ordered rs t → All (thereIn t) rs → FirstNot (λ r. row r .free) rs k → Says f (fault 8 k)
   accepted : (t : Tree) → Accepts f t → Says f (counts (length (recordsOf t)) (length (procedures t)) (cells t))

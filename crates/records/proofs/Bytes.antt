@@ -1,16 +1,23 @@
 -- Bytes that stand in a file at a position: what lies there and what follows. Other law files cite these, and take no list apart.
 use mathlib.Core.Path.{_≡_, refl, sym, ap, _∙_}
-use mathlib.Core.List.{List, [], _∷_, _++_, append-assoc}
-use Prim.Native.Nat.{ℕ, zero, suc, _+_, _*_, _≤_, _<_}
+use mathlib.Core.List.{List, [], _∷_, _++_, flatMap, append-assoc}
+use Prim.Native.Nat.{ℕ, zero, suc, _+_, _*_, _^_, _≤_, _<_}
 use native.Mathlib.Nat.{add-zero}
 use native.Mathlib.Omega.{arith}
 use lib.ListN.{length, drop, getD, length-append, length-drop}
 use lib.Seq.{drop-drop, drop-append-seam}
 use Rattle.codes.specs.Codes.{bytes16, AllBytes}
 use Rattle.codes.proofs.Rows.{one-byte, short-bytes, short-back, short-lt}
-use Rattle.records.specs.Records.{words, Shorts}
-use Rattle.records.specs.Faults.{word}
+use Rattle.records.specs.Records.{Every}
+use Rattle.records.specs.Walk.{word}
 use Rattle.records.specs.Reading.{shortsAt}
+
+-- the bytes of a row of numbers, and that two bytes hold each
+abbrev pub words : List ℕ → List ℕ
+words ls = flatMap bytes16 ls
+
+abbrev pub Shorts : List ℕ → Type 0
+Shorts ls = Every (_< 2 ^ 16) ls
 
 -- ---- what follows, and that there is room
 module _ (f : List ℕ) (at : ℕ) where
@@ -47,7 +54,7 @@ module _ (f : List ℕ) where
     lies-short at h = record { there = short-bytes f B at h; ends = refl }
 
     pub lies-shorts : (n at : ℕ) → at + 2 * n ≤ length f → Lies f at (words (shortsAt f at n)) (at + 2 * n)
-    unfolding words shortsAt
+    unfolding flatMap shortsAt
     lies-shorts zero at h = rw add-zero (lies-none at)
     lies-shorts (suc n) at h =
         let e : at + 2 + 2 * n ≡ at + 2 * suc n = omega arith in
@@ -55,7 +62,7 @@ module _ (f : List ℕ) where
         (rw e at (lies-shorts n (at + 2) (omega arith)))
 
     pub shorts-small : (n at : ℕ) → Shorts (shortsAt f at n)
-    unfolding Shorts shortsAt
+    unfolding shortsAt
     shorts-small zero at = tt
     shorts-small (suc n) at = (short-lt f B at, shorts-small n (at + 2))
 
@@ -65,13 +72,13 @@ length-shorts f zero at = refl
 length-shorts f (suc n) at = ap suc (length-shorts f n (at + 2))
 
 pub length-words : (ls : List ℕ) → length (words ls) ≡ 2 * length ls
-unfolding words
+unfolding flatMap
 length-words [] = refl
 length-words (n ∷ ns) = omega (arith, length-words ns)
 
 -- ---- numbers that stand there are read
 pub shorts-back : (f : List ℕ) (ls : List ℕ) (at : ℕ) (x : List ℕ) → Shorts ls → drop at f ≡ words ls ++ x → shortsAt f at (length ls) ≡ ls
-unfolding Shorts words shortsAt
+unfolding flatMap shortsAt
 shorts-back f [] at x s D = refl
 shorts-back f (n ∷ ns) at x s D =
     rw (short-back f at _ n (s .0) D, shorts-back f ns (at + 2) x (s .1) (front-rest f at 2 _ D))

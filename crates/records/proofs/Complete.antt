@@ -1,6 +1,6 @@
 -- The bytes of a formed record are found right, and read as that record. One law for each form of a body.
 use mathlib.Core.Path.{_≡_, refl, ap, _∙_}
-use mathlib.Core.List.{List, _∷_, _++_, append-assoc}
+use mathlib.Core.List.{List, _∷_, _++_, flatMap, append-assoc}
 use mathlib.Core.Bool.{true}
 use Prim.Native.Nat.{ℕ, _+_, _*_, _^_, _<_}
 use native.Mathlib.Omega.{arith}
@@ -11,7 +11,7 @@ use Rattle.codes.proofs.Rows.{short-back, head-of, byte-of}
 use Rattle.expr.specs.Tree.{Expr, encode}
 use Rattle.expr.proofs.Format.{complete}
 use Rattle.records.specs.Records.{Record, Target, cell, entry, names, begin, end, assign, if, else, fi, from, loop, until, call, uncall, skip, kind, body, Formed, Plain}
-use Rattle.records.specs.Faults.{word}
+use Rattle.records.specs.Walk.{word}
 use Rattle.records.specs.Reading.{stop, exprAt, testBody, namesBody, setBody, formedAs, recordAs, shortsAt, targetAt, valueAt}
 use Rattle.records.proofs.Bytes.{front-rest, after, length-words, shorts-back}
 
@@ -31,7 +31,7 @@ module _ (f : List ℕ) where
 
     complete-names : (v : ℕ) (ls : List ℕ) → Formed (names v ls) → drop (at + 4) f ≡ body (names v ls) ++ x → word f at ≡ 4 + length (body (names v ls))
         → (namesBody f at ≡ true) × (names (word f (at + 4)) (shortsAt f (at + 8) (word f (at + 6))) ≡ names v ls)
-    unfolding Formed body
+    unfolding Formed body flatMap
     complete-names v ls h D w =
         let six : at + 4 + 2 ≡ at + 6 = omega arith in
         let eight : at + 6 + 2 ≡ at + 8 = omega arith in

@@ -1,6 +1,6 @@
 -- A body that is found right is that of a record: it is formed, and its bytes fill the body. One law for each form of a body.
 use mathlib.Core.Path.{_≡_, refl}
-use mathlib.Core.List.{List, [], _∷_, _++_}
+use mathlib.Core.List.{List, [], _∷_, _++_, flatMap}
 use mathlib.Core.Bool.{Bool, true, false, _||_}
 use Prim.Native.Nat.{ℕ, _+_, _*_, _^_, _≤_, _<_}
 use native.Mathlib.Omega.{arith}
@@ -13,10 +13,10 @@ use Rattle.expr.specs.Tree.{encode}
 use Rattle.expr.specs.Bytes.{Stands}
 use Rattle.expr.proofs.Layer.{and-true}
 use Rattle.expr.proofs.Format.{sound}
-use Rattle.records.specs.Records.{Record, names, assign, kind, body, words, Formed, Plain}
-use Rattle.records.specs.Faults.{word}
+use Rattle.records.specs.Records.{Record, names, assign, kind, body, Formed, Plain}
+use Rattle.records.specs.Walk.{word}
 use Rattle.records.specs.Reading.{stop, exprAt, fills, shortsAt, targetAt, valueAt, indexed, recordAs, setBody, formedAs}
-use Rattle.records.proofs.Bytes.{Lies, lies-none, lies-of, lies-join, lies-byte, lies-short, lies-shorts, shorts-small, length-shorts}
+use Rattle.records.proofs.Bytes.{words, Lies, lies-none, lies-of, lies-join, lies-byte, lies-short, lies-shorts, shorts-small, length-shorts}
 use Rattle.records.proofs.Thirteen.{kind-cases}
 
 pub or-cases : (a b : Bool) → a || b ≡ true → (a ≡ false → b ≡ true)
@@ -44,7 +44,7 @@ module _ (f : List ℕ) (B : AllBytes f) where
 
   module _ (at : ℕ) (fits : stop f at ≤ length f) where
     sound-names : word f at ≡ 8 + 2 * word f (at + 6) → Body f at 1 (names (word f (at + 4)) (shortsAt f (at + 8) (word f (at + 6))))
-    unfolding Formed body kind
+    unfolding Formed body kind flatMap
     sound-names e =
         let n = word f (at + 6) in
         let l = length-shorts f n (at + 8) in

@@ -1,14 +1,11 @@
 -- Document 01, 'Numbers the bench gives', 2 to 5: what is first wrong with a record, and the files of which no record is.
-use Prim.Native.Nat.{ℕ, _+_, _*_, _≤_, _<_}
+use Prim.Native.Nat.{ℕ, _≤_, _<_}
 use mathlib.Core.List.{List}
 use mathlib.Core.Logic.{_⊎_}
 use mathlib.Core.Path.{_≡_}
-use lib.ListN.{length, take, getD}
+use lib.ListN.{length, take}
+use Rattle.codes.specs.Codes.{word16 as word}
 use Rattle.records.specs.Records.{Record, encodeRecord, bytesOf, Formed, InSize, FineFrom}
-
--- The u16 at a position; past the end there are zeros.
-abbrev pub word : List ℕ → ℕ → ℕ
-word s i = getD s i 0 + 256 * getD s (i + 1) 0
 
 -- 2: "1 to 3 bytes left, length under 4 or past the end"
 abbrev pub Cut : List ℕ → Type 0

@@ -6,8 +6,8 @@ use mathlib.Core.Bool.{Bool, true, cond, _&&_, _||_}
 use lib.ListN.{length, getD}
 use lib.Dec.{ltb, leb, eqb}
 use Rattle.expr.specs.Bytes.{Got, parse}
-use Rattle.records.specs.Records.{Target, cell, entry, Record, names, begin, end, assign, if, else, fi, from, loop, until, call, uncall, skip, sum, isBegin}
-use Rattle.records.specs.Faults.{word}
+use Rattle.records.specs.Records.{Target, cell, entry, Record, names, begin, end, assign, if, else, fi, from, loop, until, call, uncall, skip, row, sum, isBegin}
+use Rattle.records.specs.Walk.{word}
 use Rattle.records.specs.Walk.{stride, kindAt}
 use Rattle.records.specs.declared.Walked.{Walked}
 use Rattle.records.specs.declared.Walked.the-variants.{Fine, Faulty}
@@ -108,7 +108,14 @@ sizedAs n f at k b =
 abbrev pub sizedAt : List ℕ → ℕ → ℕ → ℕ → Bool
 sizedAt f at k b = sizedAs (kindAt f at) f at k b
 
--- ---- the questions in turn
+-- ---- the questions 7 and 8, of a record
+abbrev pub there : ℕ → ℕ → ℕ → Record → Bool
+there v a p r = row r .there v a p
+
+abbrev pub free : Record → Bool
+free r = row r .free
+
+-- ---- the questions 2 to 5 in turn
 unfoldable pub cutAt : List ℕ → ℕ → Bool
 cutAt f at = ltb (length f) (at + 4) || (ltb (word f at) 4 || ltb (length f) (stop f at))
 

@@ -1,11 +1,11 @@
 -- Document 01, 'The program file': the records and their bytes, and the limits that each record is asked by itself.
-use Prim.Native.Nat.{ℕ, zero, suc, _+_, _^_, _≤_, _<_}
-use mathlib.Core.List.{List, [], _∷_, _++_}
-use mathlib.Core.Bool.{Bool, true, false, cond, _&&_, _||_}
+use Prim.Native.Nat.{ℕ, suc, _+_, _^_, _≤_, _<_}
+use mathlib.Core.List.{List, [], _∷_, _++_, flatMap}
+use mathlib.Core.Bool.{Bool, true, false, not, cond, _&&_, _||_}
 use mathlib.Core.Path.{_≡_}
 use lib.ListN.{length}
 use lib.Dec.{ltb, eqb}
-use Rattle.expr.specs.Tree.{Expr, Valid, depth, encode, known, occurs, scalar, array}
+use Rattle.expr.specs.Tree.{Expr, Valid, depth, encode, anyName, known}
 use Rattle.codes.specs.Codes.{bytes16}
 
 -- "u8 target (0 scalar, 1 array), u16 number, for an array its index expression"
@@ -26,43 +26,82 @@ pub data Record : Type 0 where
   call uncall : ℕ → Record
   skip : Record
 
-unfoldable pub kind : Record → ℕ
-kind (names v ls) = 1
-kind begin = 2
-kind end = 3
-kind (assign o t e) = 4
-kind (if e) = 5
-kind else = 6
-kind (fi e) = 7
-kind (from e) = 8
-kind loop = 9
-kind (until e) = 10
-kind (call q) = 11
-kind (uncall q) = 12
-kind skip = 13
-
-unfoldable pub words : List ℕ → List ℕ
-words [] = []
-words (n ∷ ns) = bytes16 n ++ words ns
+-- Each number of a list is so.
+abbrev pub Every : (ℕ → Type 0) → List ℕ → Type 0
+Every P [] = Unit {0}
+Every P (n ∷ ns) = P n × Every P ns
 
 abbrev pub encodeTarget : Target → List ℕ
 encodeTarget (cell x) = 0 ∷ bytes16 x
 encodeTarget (entry a i) = 1 ∷ bytes16 a ++ encode i
 
+-- "Depth at most 16"
+abbrev pub Plain : Expr → Type 0
+Plain e = Valid e × (depth e ≤ 16)
+
+abbrev pub PlainTarget : Target → Type 0
+PlainTarget (cell x) = x < 2 ^ 16
+PlainTarget (entry a i) = (a < 2 ^ 16) × Plain i
+
+abbrev pub thereTarget : ℕ → ℕ → Target → Bool
+thereTarget v a (cell x) = ltb x v
+thereTarget v a (entry n i) = ltb n a && known v a i
+
+abbrev pub ownTarget : Target → Expr → Bool
+ownTarget (cell x) e = anyName (λ y. eqb y x) (λ n. false) e
+ownTarget (entry a i) e = anyName (λ x. false) (λ n. eqb n a) i || anyName (λ x. false) (λ n. eqb n a) e
+
+-- What is said of a record: its kind and body;
+-- formed: the body is right for its kind, with operators that are there, numbers that the bytes hold, expressions at most 16 deep;
+-- there: not 7, "scalar, array or procedure number not there, or a call of 0", of v scalars, a arrays and p procedures;
+-- free: not 8, "the assigned scalar or array occurs in the SET's own expressions".
+pub record Row : Type 1 where
+  pub kind : ℕ
+  pub body : List ℕ
+  pub formed : Type 0
+  pub there : ℕ → ℕ → ℕ → Bool
+  pub free : Bool
+
+-- Bodies of three forms: nothing, an expression, the number of a procedure.
+abbrev pub bare : ℕ → Row
+bare k = record { kind = k; body = []; formed = Unit {0}; there = λ v a p. true; free = true }
+
+abbrev pub holding : ℕ → Expr → Row
+holding k e = record { kind = k; body = encode e; formed = Plain e; there = λ v a p. known v a e; free = true }
+
+abbrev pub calling : ℕ → ℕ → Row
+calling k q = record { kind = k; body = bytes16 q; formed = q < 2 ^ 16; there = λ v a p. ltb 0 q && ltb q p; free = true }
+
+-- NAMES: "u16 V scalars, u16 A arrays, A lengths u16". SET: "u8 operator, u8 target, u16 number, for an array its index expression, then the expression".
+abbrev pub row : Record → Row
+row (names v ls) = record { kind = 1; body = flatMap bytes16 (v ∷ length ls ∷ ls); formed = Every (_< 2 ^ 16) (v ∷ length ls ∷ ls); there = λ s a p. true; free = true }
+row begin = bare 2
+row end = bare 3
+row (assign o t e) = record {
+  kind = 4;
+  body = o ∷ encodeTarget t ++ encode e;
+  formed = (o < 3) × (PlainTarget t × Plain e);
+  there = λ v a p. thereTarget v a t && known v a e;
+  free = not (ownTarget t e);
+}
+row (if e) = holding 5 e
+row else = bare 6
+row (fi e) = holding 7 e
+row (from e) = holding 8 e
+row loop = bare 9
+row (until e) = holding 10 e
+row (call q) = calling 11 q
+row (uncall q) = calling 12 q
+row skip = bare 13
+
+unfoldable pub kind : Record → ℕ
+kind r = row r .kind
+
 unfoldable pub body : Record → List ℕ
-body (names v ls) = bytes16 v ++ (bytes16 (length ls) ++ words ls)
-body begin = []
-body end = []
-body (assign o t e) = o ∷ encodeTarget t ++ encode e
-body (if e) = encode e
-body else = []
-body (fi e) = encode e
-body (from e) = encode e
-body loop = []
-body (until e) = encode e
-body (call q) = bytes16 q
-body (uncall q) = bytes16 q
-body skip = []
+body r = row r .body
+
+unfoldable pub Formed : Record → Type 0
+Formed r = row r .formed
 
 -- "u16 length of the whole record, u16 kind, body; little-endian"
 unfoldable pub encodeRecord : Record → List ℕ
@@ -73,60 +112,16 @@ unfoldable pub bytesOf : List Record → List ℕ
 bytesOf [] = []
 bytesOf (r ∷ rs) = encodeRecord r ++ bytesOf rs
 
--- Numbers that two bytes hold.
-unfoldable pub Shorts : List ℕ → Type 0
-Shorts [] = Unit {0}
-Shorts (n ∷ ns) = (n < 2 ^ 16) × Shorts ns
-
--- "Depth at most 16"
-abbrev pub Plain : Expr → Type 0
-Plain e = Valid e × (depth e ≤ 16)
-
-abbrev pub PlainTarget : Target → Type 0
-PlainTarget (cell x) = x < 2 ^ 16
-PlainTarget (entry a i) = (a < 2 ^ 16) × Plain i
-
--- A body that is right for its kind: operators that are there, numbers that the bytes hold, expressions at most 16 deep.
-unfoldable pub Formed : Record → Type 0
-Formed (names v ls) = (v < 2 ^ 16) × ((length ls < 2 ^ 16) × Shorts ls)
-Formed begin = Unit {0}
-Formed end = Unit {0}
-Formed (assign o t e) = (o < 3) × (PlainTarget t × Plain e)
-Formed (if e) = Plain e
-Formed else = Unit {0}
-Formed (fi e) = Plain e
-Formed (from e) = Plain e
-Formed loop = Unit {0}
-Formed (until e) = Plain e
-Formed (call q) = q < 2 ^ 16
-Formed (uncall q) = q < 2 ^ 16
-Formed skip = Unit {0}
-
 unfoldable pub sum : List ℕ → ℕ
 sum [] = 0
 sum (n ∷ ns) = n + sum ns
 
--- "array length 1 to 1,024"
-unfoldable pub Lengths : List ℕ → Type 0
-Lengths [] = Unit {0}
-Lengths (n ∷ ns) = ((1 ≤ n) × (n ≤ 1024)) × Lengths ns
-
 -- "Sizes: V 0 to 64, A 0 to 16, array length 1 to 1,024, cells at most 2,048, records at most 1,024, procedures 1 to 64":
 -- what a record is asked that has k records and b BEGINs before it.
-unfoldable pub InSize : ℕ → ℕ → Record → Type 0
-InSize k b (names v ls) = (k < 1024) × ((v ≤ 64) × ((length ls ≤ 16) × (Lengths ls × (v + sum ls ≤ 2048))))
-InSize k b begin = (k < 1024) × (b < 64)
-InSize k b end = k < 1024
-InSize k b (assign o t e) = k < 1024
-InSize k b (if e) = k < 1024
-InSize k b else = k < 1024
-InSize k b (fi e) = k < 1024
-InSize k b (from e) = k < 1024
-InSize k b loop = k < 1024
-InSize k b (until e) = k < 1024
-InSize k b (call q) = k < 1024
-InSize k b (uncall q) = k < 1024
-InSize k b skip = k < 1024
+pub record InSize (k b : ℕ) (r : Record) : Type 0 where
+  pub records : k < 1024
+  pub procedures : r ≡ begin → b < 64
+  pub cells : (v : ℕ) (ls : List ℕ) → r ≡ names v ls → (v ≤ 64) × ((length ls ≤ 16) × (Every (λ n. (1 ≤ n) × (n ≤ 1024)) ls × (v + sum ls ≤ 2048)))
 
 -- How many of the records are BEGIN: as many as there are procedures.
 abbrev pub isBegin : ℕ → ℕ
@@ -140,43 +135,3 @@ begins (r ∷ rs) = isBegin (kind r) + begins rs
 unfoldable pub FineFrom : ℕ → ℕ → List Record → Type 0
 FineFrom k b [] = Unit {0}
 FineFrom k b (r ∷ rs) = Formed r × (InSize k b r × FineFrom (suc k) (b + isBegin (kind r)) rs)
-
--- Refusal 7: "scalar, array or procedure number not there, or a call of 0", of v scalars, a arrays and p procedures.
-abbrev pub thereTarget : ℕ → ℕ → Target → Bool
-thereTarget v a (cell x) = ltb x v
-thereTarget v a (entry n i) = ltb n a && known v a i
-
-unfoldable pub there : ℕ → ℕ → ℕ → Record → Bool
-there v a p (names w ls) = true
-there v a p begin = true
-there v a p end = true
-there v a p (assign o t e) = thereTarget v a t && known v a e
-there v a p (if e) = known v a e
-there v a p else = true
-there v a p (fi e) = known v a e
-there v a p (from e) = known v a e
-there v a p loop = true
-there v a p (until e) = known v a e
-there v a p (call q) = ltb 0 q && ltb q p
-there v a p (uncall q) = ltb 0 q && ltb q p
-there v a p skip = true
-
--- Refusal 8: "the assigned scalar or array occurs in the SET's own expressions".
-abbrev pub ownTarget : Target → Expr → Bool
-ownTarget (cell x) e = occurs (scalar x) e
-ownTarget (entry a i) e = occurs (array a) i || occurs (array a) e
-
-unfoldable pub own : Record → Bool
-own (names v ls) = false
-own begin = false
-own end = false
-own (assign o t e) = ownTarget t e
-own (if e) = false
-own else = false
-own (fi e) = false
-own (from e) = false
-own loop = false
-own (until e) = false
-own (call q) = false
-own (uncall q) = false
-own skip = false

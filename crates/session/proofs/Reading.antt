@@ -17,7 +17,8 @@ use lib.Seq.{drop-drop, drop-at, drop-length, getD-drop}
 use borrow.Author.Tests.{le-leb, leb-true}
 use mir.Syntax.{w32}
 use mir.Val.{SFits}
-use Rattle.codes.specs.Codes.{bytes16, cellBytes, word16, cellAt, AllBytes}
+use Rattle.codes.specs.Codes.{bytes16, cellBytes, word16, AllBytes}
+use Rattle.codes.specs.Numbers.{cellAt}
 use Rattle.codes.proofs.Digits.{number16}
 use Rattle.codes.proofs.Rows.{short-lt, short-bytes, short-back, cell-fits, cell-bytes, cell-back, two-bytes}
 use Rattle.place.specs.Places.{Frame, frameKind, frameLabel, Place}

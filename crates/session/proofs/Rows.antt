@@ -15,7 +15,8 @@ use lib.Seq.{getD-drop, drop-drop, set-at, append-snoc}
 use borrow.Author.Tests.{le-leb, lt-leb}
 use mir.Syntax.{w32}
 use mir.Val.{toZ}
-use Rattle.codes.specs.Codes.{word16, word32, cellAt}
+use Rattle.codes.specs.Codes.{word16}
+use Rattle.codes.specs.Numbers.{word32, cellAt}
 use Rattle.place.specs.Slots.{slots}
 use Rattle.place.specs.Methods.{zeros}
 use Rattle.session.specs.Reader.{kindsOk}

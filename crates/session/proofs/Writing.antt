@@ -16,7 +16,8 @@ use lib.Seq.{sets, length-sets, drop-cons, drop-drop, drop-length}
 use mir.Syntax.{w32}
 use mir.Val.{SFits, toZ, ofZ}
 use mir.Facts.{toZ-ofZ}
-use Rattle.codes.specs.Codes.{bytes16, cellBytes, cellAt, written}
+use Rattle.codes.specs.Codes.{bytes16, cellBytes}
+use Rattle.codes.specs.Numbers.{cellAt, written}
 use Rattle.codes.proofs.Cases.{written-in}
 use Rattle.codes.proofs.Rows.{length-written}
 use Rattle.session.specs.Session.{encodeHead, encodeCells}

@@ -6,7 +6,8 @@ use mathlib.Core.List.{List, [], _∷_}
 use lib.Dec.{eqb, leb}
 use lib.IntN.{ℤ}
 use lib.ListN.{length, getD, drop}
-use Rattle.codes.specs.Codes.{word16, cellAt}
+use Rattle.codes.specs.Codes.{word16}
+use Rattle.codes.specs.Numbers.{cellAt}
 use Rattle.place.specs.Places.{Frame, Place}
 use Rattle.place.specs.Slots.{dirOf, frameOf}
 

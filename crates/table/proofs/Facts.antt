@@ -97,28 +97,27 @@ no-more (b ∷ bs) n zero h = absurd (omega arith)
 no-more (b ∷ bs) n (suc q) h = no-more bs (suc (suc n + sizeB b)) q (omega arith)
 
 -- ---- The sizes.
-one-more : (k b : ℕ) (r : Record) → InSize k b r → (k < 1024) × (b ≤ 64 → b + isBegin (kind r) ≤ 64)
-unfolding InSize kind
-one-more k b (names v ls) h = (h .0, λ z. omega arith)
-one-more k b begin h = (h .0, λ z. omega (arith, h .1))
-one-more k b end h = (h, λ z. omega arith)
-one-more k b (assign o t e) h = (h, λ z. omega arith)
-one-more k b (if e) h = (h, λ z. omega arith)
-one-more k b else h = (h, λ z. omega arith)
-one-more k b (fi e) h = (h, λ z. omega arith)
-one-more k b (from e) h = (h, λ z. omega arith)
-one-more k b loop h = (h, λ z. omega arith)
-one-more k b (until e) h = (h, λ z. omega arith)
-one-more k b (call q) h = (h, λ z. omega arith)
-one-more k b (uncall q) h = (h, λ z. omega arith)
-one-more k b skip h = (h, λ z. omega arith)
+one-more : (k b : ℕ) (r : Record) → InSize k b r → b ≤ 64 → b + isBegin (kind r) ≤ 64
+unfolding kind
+one-more k b (names v ls) h z = omega arith
+one-more k b begin h z = omega (arith, h .procedures refl)
+one-more k b end h z = omega arith
+one-more k b (assign o t e) h z = omega arith
+one-more k b (if e) h z = omega arith
+one-more k b else h z = omega arith
+one-more k b (fi e) h z = omega arith
+one-more k b (from e) h z = omega arith
+one-more k b loop h z = omega arith
+one-more k b (until e) h z = omega arith
+one-more k b (call q) h z = omega arith
+one-more k b (uncall q) h z = omega arith
+one-more k b skip h z = omega arith
 
 sizes : (k b : ℕ) (rs : List Record) → k ≤ 1024 → b ≤ 64 → FineFrom k b rs → (k + length rs ≤ 1024) × (b + begins rs ≤ 64)
 unfolding FineFrom begins
 sizes k b [] hk hb F = (omega arith, omega arith)
 sizes k b (r ∷ rs) hk hb F =
-    let o = one-more k b r (F .1 .0) in
-    let s = sizes (suc k) (b + isBegin (kind r)) rs (o .0) (o .1 hb) (F .1 .1) in
+    let s = sizes (suc k) (b + isBegin (kind r)) rs (F .1 .0 .records) (one-more k b r (F .1 .0) hb) (F .1 .1) in
     (omega (arith, s .0), omega (arith, s .1))
 
 pub facts : (f : List ℕ) (t : Tree) → Accepts f t → Facts t (prog t) (length (recordsOf t)) (length (procedures t))

@@ -1,20 +1,21 @@
 -- Working laws: numbers read back from their bits, the low 32 bits of a number, tests of signed numbers.
 use mathlib.Core.Path.{_≡_, refl, sym, ap, ap₂, _∙_, subst}
-use mathlib.Core.Bool.{Bool, true, false, not, cond}
+use mathlib.Core.Bool.{Bool, true, false, not, cond, _&&_}
 use Prim.Native.Nat.{ℕ, zero, suc, _+_, _-_, _*_, _/_, _%_, _^_, _≤_, _<_}
 use native.Mathlib.Omega.{arith}
 use native.Mathlib.Decide.{ℕ-discrete}
 use native.Mathlib.Nat.{div-add-mod', mul-le-mul}
 use lib.IntN.{ℤ, pos, negsuc, negℤ, natAbs, subℕ, _+ℤ_, _-ℤ_, _*ℤ_}
 use lib.Signed.{mag, natAbs-le, nonNeg, ltZ}
-use lib.Dec.{T, eqb, ltb, ltb→lt, nltb→le, lit<}
+use lib.Dec.{T, eqb, leb, ltb, ltb→lt, nltb→le, lit<}
 use lib.Arith.{lt-of-le-ne, bin-ind, digits-div, digits-mod}
 use lib.Bits.{bitXor, bitAnd, differ, and-mask, xor-step, xor-self}
-use borrow.Author.Tests.{eq-eqb, ne-eqb, ltb-true}
+use borrow.Author.Tests.{eq-eqb, ne-eqb, ltb-true, leb-true, leb-false}
 use mir.Syntax.{w32, w64}
 use mir.Val.{toZ, ofZ, boolByte, Fits, SFits}
 use mir.Facts.{toZ-ofZ, toZ-pos, toZ-neg, sfits-widen, sfits-toZ}
-use Rattle.values.specs.Values.{low32, truth, isTrue, eqZ}
+use Rattle.values.specs.Values.{truth, isTrue, eqZ}
+use Rattle.values.specs.Packed.{low32}
 
 -- ---- cases
 
@@ -215,12 +216,21 @@ bits-true (pos zero) h = refl
 bits-true (pos (suc n)) h = ap not (ne-eqb (suc n) 0 (λ e. omega arith))
 bits-true (negsuc n) h = ap not (ne-eqb (4294967296 - suc n) 0 (λ e. omega arith))
 
+-- equal is at most, both ways
+eq-le : (a b : ℕ) → eqb a b ≡ leb a b && leb b a
+eq-le a b = go (leb a b) (leb b a) refl refl
+  where
+    go : (t u : Bool) → leb a b ≡ t → leb b a ≡ u → eqb a b ≡ t && u
+    go true true p q = eq-eqb a b (omega (arith, leb-true a b p, leb-true b a q))
+    go true false p q = ne-eqb a b (λ e. omega (arith, leb-false b a q))
+    go false u p q = ne-eqb a b (λ e. omega (arith, leb-false a b p))
+
 pub bits-eq : (x y : ℤ) → SFits w32 x → SFits w32 y → eqb (ofZ w32 x) (ofZ w32 y) ≡ eqZ x y
-bits-eq (pos a) (pos b) h k = refl
+bits-eq (pos a) (pos b) h k = eq-le a b
 bits-eq (pos a) (negsuc b) h k = ne-eqb a (4294967296 - suc b) (λ e. omega arith)
 bits-eq (negsuc a) (pos b) h k = ne-eqb (4294967296 - suc a) b (λ e. omega arith)
-bits-eq (negsuc a) (negsuc b) h k = both (ℕ-discrete a b)
+bits-eq (negsuc a) (negsuc b) h k = both (ℕ-discrete a b) ∙ eq-le b a
   where
-    both : Dec (a ≡ b) → eqb (4294967296 - suc a) (4294967296 - suc b) ≡ eqb a b
-    both (yes p) = eq-eqb (4294967296 - suc a) (4294967296 - suc b) (omega arith) ∙ sym (eq-eqb a b p)
-    both (no f) = ne-eqb (4294967296 - suc a) (4294967296 - suc b) (λ e. f (omega arith)) ∙ sym (ne-eqb a b f)
+    both : Dec (a ≡ b) → eqb (4294967296 - suc a) (4294967296 - suc b) ≡ eqb b a
+    both (yes p) = eq-eqb (4294967296 - suc a) (4294967296 - suc b) (omega arith) ∙ sym (eq-eqb b a (sym p))
+    both (no f) = ne-eqb (4294967296 - suc a) (4294967296 - suc b) (λ e. f (omega arith)) ∙ sym (ne-eqb b a (λ e. f (sym e)))

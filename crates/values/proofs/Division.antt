@@ -4,13 +4,13 @@ use Prim.Native.Nat.{ℕ, zero, suc, _+_, _-_, _*_, _/_, _%_, _^_, _≤_, _<_}
 use native.Mathlib.Omega.{arith}
 use native.Mathlib.Nat.{mod-lt, div-add-mod'}
 use lib.IntN.{ℤ, pos, negsuc, negℤ, subℕ, _+ℤ_, _-ℤ_, _*ℤ_, +ℤ-comm, -ℤ-+ℤ-cancel, *ℤ-negsuc, negℤ-+ℤ, negℤ-negℤ}
-use lib.Signed.{_≤ℤ_, _<ℤ_, leZ-yes, ltZ-yes}
+use lib.Signed.{shrZ as floorBy, _≤ℤ_, _<ℤ_, leZ-yes, ltZ-yes}
 use lib.Arith.{digits-div}
 use lib.Dec.{ltb→lt, lt→ltb, le→leb, leb→le}
 use mir.Syntax.{w32}
 use mir.Val.{SFits}
 use mir.Facts.{sfits-lit}
-use Rattle.values.specs.Values.{floorBy, modBy, floorDiv, floorMod}
+use Rattle.values.specs.Values.{modBy, floorDiv, floorMod}
 use Rattle.values.proofs.Bits.{sub-ind}
 
 -- ---- the remainder goes with the exact quotient
