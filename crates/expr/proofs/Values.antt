@@ -23,7 +23,7 @@ use Rattle.values.proofs.Laws.{apply-fits}
 use Rattle.expr.specs.Tree.{Fault, byZero, badIndex, Worth, value, stop, worthOf, element, eval}
 use Rattle.expr.specs.Agreement.{both, indexed}
 use Rattle.expr.specs.Bytes.{Got, nothing, parse}
-use Rattle.expr.specs.Answers.{packedWorth, unpacked, InCell, Packs, movedTo, arraysOf, worthAt, readAt, WorthSays, OnTheWay, Tried}
+use Rattle.expr.specs.Answers.{packedWorth, unpacked, InCell, Packs, movedTo, arraysOf, worthAt, readAt, WorthSays, OnTheWay}
 use Rattle.expr.proofs.Agree.{worth-fits}
 use Rattle.expr.proofs.Layer.{parse-none, parse-out, parse-con, parse-var, parse-read, parse-bin}
 
@@ -156,6 +156,9 @@ packed-worth (is v) = refl
 packed-worth zeroDivisor = refl
 
 -- ---- the evaluator
+inside : (s : List ℕ) (at : ℕ) → at < 32768 → length s ≡ 32768 → at < length s
+inside s at h l = rw l h
+
 module _ (A : List ℕ) (C : List ℤ) (s : List ℕ) (left at : ℕ) where
   nothing-worth : parse left s at ≡ nothing at → OnTheWay (worthAt A C (parse left s at)) (parse left s at .next) (pos 0) at
   unfolding eval
@@ -164,25 +167,26 @@ module _ (A : List ℕ) (C : List ℤ) (s : List ℕ) (left at : ℕ) where
   pub value-none : left ≡ 0 → OnTheWay (worthAt A C (parse left s at)) (parse left s at .next) (pos 0) at
   value-none e = nothing-worth (parse-none left s at e)
 
-  pub value-out : length s ≤ at → OnTheWay (worthAt A C (parse left s at)) (parse left s at .next) (pos 0) at
-  value-out h = nothing-worth (parse-out left s at h)
+  -- the bytes are an array of 32,768
+  pub value-out : 32768 ≤ at → length s ≡ 32768 → OnTheWay (worthAt A C (parse left s at)) (parse left s at .next) (pos 0) at
+  value-out h l = nothing-worth (parse-out left s at (rw l h))
 
-  module _ (nz : left ≡ 0 → ⊥) (h : at < length s) (tag : ℕ) (tg : tag ≡ getD s at 0) where
+  module _ (nz : left ≡ 0 → ⊥) (near : at < 32768) (size : length s ≡ 32768) (tag : ℕ) (tg : tag ≡ getD s at 0) where
     pub value-con : (v : ℤ) → tag ≡ 0 → SFits w32 v → v ≡ cellAt s (at + 1)
         → OnTheWay (worthAt A C (parse left s at)) (parse left s at .next) (again64 (again v)) (at + 5)
     unfolding eval
-    value-con v e f p = rw (parse-con s at h tag tg left nz e) (way-value _ (at + 5) v (ap value (sym p)) f)
+    value-con v e f p = rw (parse-con s at (inside s at near size) tag tg left nz e) (way-value _ (at + 5) v (ap value (sym p)) f)
 
     pub value-var : (x : ℕ) (v : ℤ) → tag ≡ 1 → SFits w32 v → v ≡ getD C x (pos 0) → x ≡ word16 s (at + 1)
         → OnTheWay (worthAt A C (parse left s at)) (parse left s at .next) (again64 (again v)) (at + 3)
     unfolding eval
-    value-var x v e f p q = rw (parse-var s at h tag tg left nz e) (way-value _ (at + 3) v (rw (← q) (ap value (sym p))) f)
+    value-var x v e f p q = rw (parse-var s at (inside s at near size) tag tg left nz e) (way-value _ (at + 3) v (rw (← q) (ap value (sym p))) f)
 
     pub value-read : (r : ℤ) (after : ℕ) → tag ≡ 2 → SFits w64 r
         → OnTheWay (readAt A C (word16 s (at + 1)) (parse (left - 1) s (at + 3))) (parse (left - 1) s (at + 3) .next) r after
         → OnTheWay (worthAt A C (parse left s at)) (parse left s at .next) (again64 r) after
     unfolding eval
-    value-read r after e f o = rw (parse-read s at h tag tg left nz e) (way-on _ _ r after f o)
+    value-read r after e f o = rw (parse-read s at (inside s at near size) tag tg left nz e) (way-on _ _ r after f o)
 
     module _ (n0 : tag ≡ 0 → ⊥) (n1 : tag ≡ 1 → ⊥) (n2 : tag ≡ 2 → ⊥) (l : ℤ) (mid : ℕ)
         (lo : OnTheWay (worthAt A C (parse (left - 1) s (at + 2))) (parse (left - 1) s (at + 2) .next) l mid) (fl : SFits w64 l) where
@@ -191,7 +195,7 @@ module _ (A : List ℕ) (C : List ℤ) (s : List ℕ) (left at : ℕ) where
       left-stop t =
           let w = told-stop _ _ l mid lo fl t in
           let e = ap (λ (x : Worth). both (getD s (at + 1) 0) x (worthAt A C (parse (left - 1) s (parse (left - 1) s (at + 2) .next)))) (w .1 .0) in
-          rw (parse-bin s at h tag tg left nz n0 n1 n2) (way-stop _ _ (w .0) (again64 l) mid e (w .1 .1))
+          rw (parse-bin s at (inside s at near size) tag tg left nz n0 n1 n2) (way-stop _ _ (w .0) (again64 l) mid e (w .1 .1))
 
       module _ (tl : ltZ (pos 2147483647) (again64 l) ≡ false) (r : ℤ) (after : ℕ)
           (ro : OnTheWay (worthAt A C (parse (left - 1) s mid)) (parse (left - 1) s mid .next) r after) (fr : SFits w64 r) where
@@ -201,7 +205,7 @@ module _ (A : List ℕ) (C : List ℤ) (s : List ℕ) (left at : ℕ) where
             let x = told-value _ _ l mid lo fl tl in
             let w = told-stop _ _ r after ro fr t in
             let e = ap (λ (y : Worth). both (getD s (at + 1) 0) y (worthAt A C (parse (left - 1) s mid))) (x .0) ∙ ap (both (getD s (at + 1) 0) (value l)) (w .1 .0) in
-            rw (parse-bin s at h tag tg left nz n0 n1 n2, ← x .1 .1) (way-stop _ _ (w .0) (again64 r) after e (w .1 .1))
+            rw (parse-bin s at (inside s at near size) tag tg left nz n0 n1 n2, ← x .1 .1) (way-stop _ _ (w .0) (again64 r) after e (w .1 .1))
 
         pub value-bin : (v : ℤ) (o : ℕ) → ltZ (pos 2147483647) (again64 r) ≡ false → SFits w64 v → v ≡ packed (applyOp o (again (again64 l)) (again (again64 r)))
             → o ≡ getD s (at + 1) 0 → OnTheWay (worthAt A C (parse left s at)) (parse left s at .next) (again64 v) after
@@ -211,7 +215,7 @@ module _ (A : List ℕ) (C : List ℤ) (s : List ℕ) (left at : ℕ) where
             let y = told-value _ _ r after ro fr t in
             let sl : again (again64 l) ≡ l = ap again (toZ-ofZ fl) ∙ toZ-ofZ (x .1 .0) in
             let sr : again (again64 r) ≡ r = ap again (toZ-ofZ fr) ∙ toZ-ofZ (y .1 .0) in
-            rw (parse-bin s at h tag tg left nz n0 n1 n2, ← x .1 .1, x .0, y .0, ← oo)
+            rw (parse-bin s at (inside s at near size) tag tg left nz n0 n1 n2, ← x .1 .1, x .0, y .0, ← oo)
             (record {
               answer = toZ-ofZ fv ∙ rw (sl, sr) at p ∙ packed-worth (applyOp o l r);
               range = worth-fits (applyOp o l r) (apply-fits o l r (x .1 .0) (y .1 .0));
@@ -220,43 +224,11 @@ module _ (A : List ℕ) (C : List ℤ) (s : List ℕ) (left at : ℕ) where
 
 pub ruleset evaluations = (value-none, value-out, value-con, value-var, value-read, left-stop, right-stop, value-bin)
 
--- ---- the short ways
-pub tried : (w : Worth) (next : ℕ) (r : ℤ) (after : ℕ) → OnTheWay w next r after → Tried w next r after
-tried w next r after o = record { told = λ k. o }
-
-pub untold : (w : Worth) (next after : ℕ) → Tried w next (pos 4294967296) after
-untold w next after = record { told = λ k. absurd (k refl) }
-
--- a value is told
-sure : (r : ℤ) → ltZ (pos 2147483647) (again64 r) ≡ false → ofZ w64 r ≡ 4294967296 → ⊥
-sure r t e = true≢false (rw e at t)
-
-module _ (A : List ℕ) (C : List ℤ) (s : List ℕ) (left at : ℕ) (nz : left ≡ 0 → ⊥) (h : at < length s) (tag : ℕ) (tg : tag ≡ getD s at 0)
-    (n0 : tag ≡ 0 → ⊥) (n1 : tag ≡ 1 → ⊥) (n2 : tag ≡ 2 → ⊥) (l : ℤ) (mid : ℕ)
-    (lo : Tried (worthAt A C (parse (left - 1) s (at + 2))) (parse (left - 1) s (at + 2) .next) l mid) (fl : SFits w64 l)
-    (tl : ltZ (pos 2147483647) (again64 l) ≡ false) (r : ℤ) (after : ℕ)
-    (ro : Tried (worthAt A C (parse (left - 1) s mid)) (parse (left - 1) s mid .next) r after) (fr : SFits w64 r) where
-  pub leaf-bin : (v : ℤ) (o : ℕ) → ltZ (pos 2147483647) (again64 r) ≡ false → SFits w64 v → v ≡ packed (applyOp o (again (again64 l)) (again (again64 r)))
-      → o ≡ getD s (at + 1) 0 → Tried (worthAt A C (parse left s at)) (parse left s at .next) (again64 v) after
-  leaf-bin v o t fv p oo =
-      tried _ _ _ _ (value-bin A C s left at nz h tag tg n0 n1 n2 l mid (lo .told (sure l tl)) fl tl r after (ro .told (sure r t)) fr v o t fv p oo)
-
-pub ruleset leaves = (untold, leaf-bin, tried, value-none, value-out, value-con, value-var)
-
-pub leaf-narrow : (r : ℤ) → SFits w64 r → (w : Worth) (next after : ℕ) → Tried w next r after → ltZ (pos 2147483647) (again64 r) ≡ false → SFits w32 (again64 r)
-leaf-narrow r f w next after o t = narrow r f w next after (o .told (sure r t)) t
-
-pub ruleset leafcasts = (widened, leaf-narrow)
-
--- the short way's answer where it tells, or the evaluator's
-pub operand-told : (w : Worth) (next : ℕ) (r : ℤ) (after : ℕ) → SFits w64 r → Tried w next r after → (ofZ w64 r ≡ 4294967296 → ⊥)
-    → OnTheWay w next (again64 r) after
-operand-told w next r after f o k = way-on w next r after f (o .told k)
-
+-- ---- the operand's answer is the evaluator's, where that is asked
 pub operand-on : (w : Worth) (next : ℕ) (r : ℤ) (after : ℕ) → SFits w64 r → OnTheWay w next r after → OnTheWay w next (again64 r) after
 operand-on w next r after f o = way-on w next r after f o
 
-pub ruleset operands = (operand-told, operand-on)
+pub ruleset operands = (operand-on, value-none, value-out, value-con, value-var)
 
 -- ---- the whole: a refusal puts the position back
 module _ (A : List ℕ) (C : List ℤ) (g : Got) (r : ℤ) (after : ℕ) (o : OnTheWay (worthAt A C g) (g .next) r after) (f : SFits w64 r) where

@@ -7,8 +7,8 @@ use lib.Dec.{eqb}
 use lib.IntN.{ℤ, pos, negsuc}
 use lib.ListN.{take, drop}
 use lib.Dec.{ltb}
-use mir.Syntax.{w32, w64}
-use mir.Val.{SFits, ofZ}
+use mir.Syntax.{w32}
+use mir.Val.{SFits}
 use Rattle.expr.specs.Tree.{Expr, depth, Valid, Arrays, Fault, byZero, badIndex, Worth, value, stop, eval, known}
 use Rattle.expr.specs.Agreement.{indexed, Name, scalar, array, occurs}
 use Rattle.expr.specs.Bytes.{Stands, Got}
@@ -82,10 +82,6 @@ pub record OnTheWay (w : Worth) (next : ℕ) (r : ℤ) (after : ℕ) : Type 0 wh
   pub answer : r ≡ packedWorth w
   pub range : InCell w
   pub place : after ≡ movedTo w after next
-
--- the same for a short way, which may answer 2^32 where it does not tell
-pub record Tried (w : Worth) (next : ℕ) (r : ℤ) (after : ℕ) : Type 0 where
-  pub told : (ofZ w64 r ≡ 4294967296 → ⊥) → OnTheWay w next r after
 
 -- ---- `mentions`
 abbrev pub nameOf : Bool → ℕ → Name

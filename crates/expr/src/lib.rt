@@ -11,7 +11,7 @@ ghost use Rattle.codes.specs.Codes.{word16};
 ghost use Rattle.expr.specs.Tree.{element};
 ghost use Rattle.expr.specs.Agreement.{isScalar, isArray};
 ghost use Rattle.expr.specs.Bytes.{parse, whole};
-ghost use Rattle.expr.specs.Answers.{endOf, Packs, arraysOf, worthAt, readAt, WorthSays, OnTheWay, Tried, nameOf, seenOf, knownOf};
+ghost use Rattle.expr.specs.Answers.{endOf, Packs, arraysOf, worthAt, readAt, WorthSays, OnTheWay, nameOf, seenOf, knownOf};
 
 pub enum End {
     At(usize),
@@ -68,9 +68,6 @@ const MOST: i64 = 2147483647;
 
 const BAD_INDEX: i64 = 4294967329;
 
-// No answer, but that the short ways below do not answer: 2^32.
-const OTHER: i64 = 4294967296;
-
 // The cell i, 0 past the end.
 fn cell(cells: &[i32], i: usize) -> i32
     ensures { λ r. ⌜ r ≡ getD (now (cells .entry)) i (pos 0) ⌝ }
@@ -86,7 +83,7 @@ fn wide(x: u16) -> usize
 }
 
 // Array a at an index: tested, then read. The bits of a negative index are above every length.
-fn element_at(cells: &[i32], arrays: &[u16; 32], a: usize, index: i32) -> i64
+fn element_at(cells: &[i32; 2048], arrays: &[u16; 32], a: usize, index: i32) -> i64
     ensures { λ r. ⌜ Packs (element (arraysOf (now (arrays .entry))) (now (cells .entry)) a index) r ⌝ }
 {
     if 16 <= a {
@@ -99,125 +96,94 @@ fn element_at(cells: &[i32], arrays: &[u16; 32], a: usize, index: i32) -> i64
     BAD_INDEX
 }
 
-// The same as `value_at` for a constant or a scalar, without a call of its own; else OTHER.
-fn simple(s: &[u8], at: &mut usize, left: usize, cells: &[i32], arrays: &[u16; 32]) -> i64
-    ensures { λ r. ⌜ Tried (worthAt (now (arrays .entry)) (now (cells .entry)) (parse left (now (s .entry)) (now (at .entry)))) (parse left (now (s .entry)) (now (at .entry)) .next) r (now (at .exit)) ⌝ }
-{
-    let p = *at;
-    if left == 0 {
-        return 0;
-    }
-    if s.len() <= p {
-        return 0;
-    }
-    let tag = byte(s, p);
-    if tag == 0 {
-        *at = p + 5;
-        return long(s, p + 1) as i64;
-    }
-    if tag == 1 {
-        *at = p + 3;
-        return cell(cells, short(s, p + 1)) as i64;
-    }
-    OTHER
-}
-
-// The same for those and for an operator on two of them; else OTHER, and `*at` anywhere.
-fn leaf(s: &[u8], at: &mut usize, left: usize, cells: &[i32], arrays: &[u16; 32]) -> i64
-    ensures { λ r. ⌜ Tried (worthAt (now (arrays .entry)) (now (cells .entry)) (parse left (now (s .entry)) (now (at .entry)))) (parse left (now (s .entry)) (now (at .entry)) .next) r (now (at .exit)) ⌝ }
-{
-    let p = *at;
-    if left == 0 {
-        return 0;
-    }
-    if s.len() <= p {
-        return 0;
-    }
-    let tag = byte(s, p);
-    if tag == 0 {
-        *at = p + 5;
-        return long(s, p + 1) as i64;
-    }
-    if tag == 1 {
-        *at = p + 3;
-        return cell(cells, short(s, p + 1)) as i64;
-    }
-    if tag == 2 {
-        return OTHER;
-    }
-    let operator = byte(s, p + 1) as u8;
-    *at = p + 2;
-    let l = simple(s, at, left - 1, cells, arrays);
-    if l > MOST {
-        return OTHER;
-    }
-    let r = simple(s, at, left - 1, cells, arrays);
-    if r > MOST {
-        return OTHER;
-    }
-    values::apply(operator, l as i32, r as i32)
-}
-
 // What the expression at `*at`, at most `left` deep, is worth; where that is a value, `*at` is moved behind it.
-fn value_at(s: &[u8], at: &mut usize, left: usize, cells: &[i32], arrays: &[u16; 32]) -> i64
-    ensures { λ r. ⌜ OnTheWay (worthAt (now (arrays .entry)) (now (cells .entry)) (parse left (now (s .entry)) (now (at .entry)))) (parse left (now (s .entry)) (now (at .entry)) .next) r (now (at .exit)) ⌝ }
+fn value_at(
+    bytes: &[u8; 32768],
+    at: &mut usize,
+    left: usize,
+    cells: &[i32; 2048],
+    arrays: &[u16; 32],
+) -> i64
+    ensures { λ r. ⌜ OnTheWay (worthAt (now (arrays .entry)) (now (cells .entry)) (parse left (now (bytes .entry)) (now (at .entry)))) (parse left (now (bytes .entry)) (now (at .entry)) .next) r (now (at .exit)) ⌝ }
 {
     let p = *at;
     if left == 0 {
         return 0;
     }
-    if s.len() <= p {
+    let tag = byte(bytes, p);
+    if 32768 <= p {
         return 0;
     }
-    let tag = byte(s, p);
     if tag == 0 {
         *at = p + 5;
-        return long(s, p + 1) as i64;
+        return long(bytes, p + 1) as i64;
     }
     if tag == 1 {
         *at = p + 3;
-        return cell(cells, short(s, p + 1)) as i64;
+        return cell(cells, short(bytes, p + 1)) as i64;
     }
     if tag == 2 {
-        return read_at(s, at, left - 1, cells, arrays);
+        return read_at(bytes, at, left - 1, cells, arrays);
     }
-    let operator = byte(s, p + 1) as u8;
+    let operator = byte(bytes, p + 1) as u8;
     *at = p + 2;
-    let l = operand(s, at, left - 1, cells, arrays);
+    let l = operand(bytes, at, left - 1, cells, arrays);
     if l > MOST {
         return l;
     }
-    let r = operand(s, at, left - 1, cells, arrays);
+    let r = operand(bytes, at, left - 1, cells, arrays);
     if r > MOST {
         return r;
     }
     values::apply(operator, l as i32, r as i32)
 }
 
-// The same, the short way first.
-fn operand(s: &[u8], at: &mut usize, left: usize, cells: &[i32], arrays: &[u16; 32]) -> i64
-    ensures { λ r. ⌜ OnTheWay (worthAt (now (arrays .entry)) (now (cells .entry)) (parse left (now (s .entry)) (now (at .entry)))) (parse left (now (s .entry)) (now (at .entry)) .next) r (now (at .exit)) ⌝ }
+// The same. A constant and a scalar are read here, without a call: nearly every operand is one.
+fn operand(
+    bytes: &[u8; 32768],
+    at: &mut usize,
+    left: usize,
+    cells: &[i32; 2048],
+    arrays: &[u16; 32],
+) -> i64
+    ensures { λ r. ⌜ OnTheWay (worthAt (now (arrays .entry)) (now (cells .entry)) (parse left (now (bytes .entry)) (now (at .entry)))) (parse left (now (bytes .entry)) (now (at .entry)) .next) r (now (at .exit)) ⌝ }
 {
     let p = *at;
-    let q = leaf(s, at, left, cells, arrays);
-    if q != OTHER {
-        return q;
+    if left == 0 {
+        return 0;
     }
-    *at = p;
-    value_at(s, at, left, cells, arrays)
+    let tag = byte(bytes, p);
+    if 32768 <= p {
+        return 0;
+    }
+    if tag == 0 {
+        *at = p + 5;
+        return long(bytes, p + 1) as i64;
+    }
+    if tag == 1 {
+        *at = p + 3;
+        return cell(cells, short(bytes, p + 1)) as i64;
+    }
+    value_at(bytes, at, left, cells, arrays)
 }
 
 // What the array read at `*at` is worth: its number stands behind the first byte, then its index, at most `left` deep.
 // Evaluator and array read call each other. `value_at` lowers the depth left by 1, `operand` and `read_at` pass their own on:
 // what falls at every call is 3n for `value_at`, 3n + 1 for `operand` and 3n + 2 for `read_at`.
-fn read_at(s: &[u8], at: &mut usize, left: usize, cells: &[i32], arrays: &[u16; 32]) -> i64
-    requires { ⌜ now at < length (now s) ⌝ }
-    ensures { λ r. ⌜ OnTheWay (readAt (now (arrays .entry)) (now (cells .entry)) (word16 (now (s .entry)) (now (at .entry) + 1)) (parse left (now (s .entry)) (now (at .entry) + 3))) (parse left (now (s .entry)) (now (at .entry) + 3) .next) r (now (at .exit)) ⌝ }
+fn read_at(
+    bytes: &[u8; 32768],
+    at: &mut usize,
+    left: usize,
+    cells: &[i32; 2048],
+    arrays: &[u16; 32],
+) -> i64
+    requires { ⌜ now at < 32768 ⌝ }
+    ensures { λ r. ⌜ OnTheWay (readAt (now (arrays .entry)) (now (cells .entry)) (word16 (now (bytes .entry)) (now (at .entry) + 1)) (parse left (now (bytes .entry)) (now (at .entry) + 3))) (parse left (now (bytes .entry)) (now (at .entry) + 3) .next) r (now (at .exit)) ⌝ }
 {
     let p = *at;
-    let a = short(s, p + 1);
+    let a = short(bytes, p + 1);
     *at = p + 3;
-    let i = operand(s, at, left, cells, arrays);
+    let i = operand(bytes, at, left, cells, arrays);
     if i > MOST {
         return i;
     }
@@ -225,11 +191,24 @@ fn read_at(s: &[u8], at: &mut usize, left: usize, cells: &[i32], arrays: &[u16; 
 }
 
 // What the expression at `*at` is worth, read to the depth 16. `*at` is moved behind it, or stays where it is refused.
-pub fn worth(s: &[u8], at: &mut usize, cells: &[i32], arrays: &[u16; 32]) -> i64
-    ensures { λ r. ⌜ WorthSays (now (arrays .entry)) (now (cells .entry)) (now (at .entry)) (parse 16 (now (s .entry)) (now (at .entry))) r (now (at .exit)) ⌝ }
+// This way is for a condition, which is nearly always an operator.
+pub fn worth(bytes: &[u8; 32768], at: &mut usize, cells: &[i32; 2048], arrays: &[u16; 32]) -> i64
+    ensures { λ r. ⌜ WorthSays (now (arrays .entry)) (now (cells .entry)) (now (at .entry)) (parse 16 (now (bytes .entry)) (now (at .entry))) r (now (at .exit)) ⌝ }
 {
     let start = *at;
-    let r = operand(s, at, 16, cells, arrays);
+    let r = value_at(bytes, at, 16, cells, arrays);
+    if r > MOST {
+        *at = start;
+    }
+    r
+}
+
+// The same. This way is for what a SET adds and for its index, nearly always a constant or a scalar.
+pub fn amount(bytes: &[u8; 32768], at: &mut usize, cells: &[i32; 2048], arrays: &[u16; 32]) -> i64
+    ensures { λ r. ⌜ WorthSays (now (arrays .entry)) (now (cells .entry)) (now (at .entry)) (parse 16 (now (bytes .entry)) (now (at .entry))) r (now (at .exit)) ⌝ }
+{
+    let start = *at;
+    let r = operand(bytes, at, 16, cells, arrays);
     if r > MOST {
         *at = start;
     }

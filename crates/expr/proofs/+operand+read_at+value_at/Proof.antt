@@ -20,7 +20,6 @@ use Rattle.codes.proofs.long.Reads as long-reads
 use Rattle.codes.proofs.short.Reads as short-reads
 use Rattle.expr.proofs.cell.Reads as cell-reads
 use Rattle.expr.proofs.element_at.Reads as element-at-reads
-use Rattle.expr.proofs.leaf.Reads as leaf-reads
 use Rattle.values.proofs.apply.Reads as apply-reads
 use Rattle.expr.proofs.+operand+read_at+value_at.{statement}
 use Rattle.expr.proofs.+operand+read_at+value_at.Tie.{close}
@@ -54,10 +53,22 @@ value-at-below t =
     and 4 value-at-kinds.ps (falls 4 value-at-kinds.ps _<_ μ-value-at t) value-at.Pre
 
 pub +operand+read-at+value-at-spec : {M : Type 1} → statement M
-+operand+read-at+value-at-spec = close μ-operand μ-read-at μ-value-at (λ t. operand-lts.spec (leaf-reads.Asked, leaf-reads.Learnt, value-at-below t, value-at.Post)
++operand+read-at+value-at-spec = close μ-operand μ-read-at μ-value-at (λ t. operand-lts.spec (byte-reads.Asked, byte-reads.Learnt, long-reads.Asked, long-reads.Learnt, short-reads.Asked, short-reads.Learnt, cell-reads.Asked, cell-reads.Learnt, value-at-below t, value-at.Post)
     (operand-at t)
     operand.Post
+    (λ c. search operands)
     (λ c κs. search needs)
+    (λ c. search operands)
+    (λ c. search needs)
+    (λ c. search needs)
+    (λ c κs. search needs)
+    (λ c. search casts)
+    (λ c. search operands)
+    (λ c. search needs)
+    (λ c. search needs)
+    (λ c κs. search needs)
+    (λ c κs. search needs)
+    (λ c. search casts)
     (λ c. search operands)
     (λ c κs. search needs)
     (λ c. search operands))
@@ -76,8 +87,8 @@ pub +operand+read-at+value-at-spec : {M : Type 1} → statement M
     (value-at-at t)
     value-at.Post
     (λ c. search evaluations)
-    (λ c. search evaluations)
     (λ c κs. search needs)
+    (λ c. search evaluations)
     (λ c. search needs)
     (λ c. search needs)
     (λ c κs. search needs)

@@ -1,0 +1,8 @@
+-- `expr::amount` meets its contract: a refusal puts the position back, the cases of `Values`. Assumes nothing.
+use borrow.Author.Needs.{needs}
+use Rattle.expr.proofs.Values.{worths}
+use Rattle.expr.proofs.amount.Statement.{statement}
+use Rattle.expr.proofs.amount.Tie as tie
+
+pub amount-spec : {M : Type 1} → statement M
+amount-spec = tie.close (tie.spec (λ c κs. search needs) (λ c. search worths) (λ c. search worths))
