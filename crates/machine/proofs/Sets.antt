@@ -15,7 +15,7 @@ use Rattle.expr.proofs.Agree.{eval-agree}
 use Rattle.place.specs.Slots.{dirNumber}
 use Rattle.records.specs.Records.{Target, cell, entry, Record, assign}
 use Rattle.order.specs.Trees.{Tree}
-use Rattle.records.specs.Walk.{word}
+use Rattle.records.specs.Faults.{word}
 use Rattle.records.specs.Reading.{recordAs}
 use Rattle.moves.specs.Places.{Dir, down, up}
 use Rattle.moves.specs.Stores.{Answer, ok, no, badIndex, bind, Store, layout, answered, evaluated, applied, operator, entryAt, cellOf, assigned}
