@@ -14,8 +14,8 @@ use Rattle.place.specs.Slots.{dirNumber, held}
 use Rattle.records.specs.Records.{Record, names, begin, end, assign, if, else, fi, from, loop, until, call, uncall, skip, kind, begins, isBegin, InSize, FineFrom}
 use Rattle.order.specs.Trees.{Stmt, setS, skipS, callS, uncallS, ifS, fromS, Block, one, _then_, Tree, procedures, recordsS, recordsB, recordsP, recordsOf}
 use Rattle.program.specs.Says.{Accepts, thereIn}
-use Rattle.records.specs.Walk.{word}
-use Rattle.records.specs.Reading.{recordAs, there}
+use Rattle.records.specs.Faults.{word}
+use Rattle.records.specs.Reading.{recordAs}
 use Rattle.moves.specs.Labels.{at}
 use Rattle.moves.specs.Stores.{atEnd, tooDeep, Answer, ok, no, Store}
 use Rattle.moves.proofs.Linked.{Rec, nameL, beginL, endL, setL, skipL, ifL, elseL, fiL, fromL, loopL, untilL, callL, uncallL, Prog, forget, side, gateL, resume}

@@ -15,7 +15,7 @@ use mir.Facts.{toZ-ofZ}
 use Rattle.expr.specs.Tree.{Fault, byZero, badIndex as outside, Worth, value, stop}
 use Rattle.expr.specs.Bytes.{Got, parse}
 use Rattle.expr.specs.Answers.{worthAt, WorthSays, faultNumber}
-use Rattle.records.specs.Walk.{word}
+use Rattle.records.specs.Faults.{word}
 use Rattle.moves.specs.Stores.{Answer, ok, no, number, reasonOf, Store}
 use Rattle.machine.specs.Sets.{faultOf, Leaves, setAt}
 use Rattle.machine.specs.Decide.{lookIn, moreOf, otherOf, alongOf, truthOf, refusedOf, keptOf, pushedOf, poppedOf, changedOf, headIn, middleIn, tailIn, chosenOf, closedOf, againOf, openedOf, repeatedOf, gateOf, enteredTo, enteredOf, resumedOf, returnedOf, testedOf, assignedOf, moving, afterSet, Rules, ruleOf}

@@ -18,8 +18,8 @@ use Rattle.place.specs.Slots.{dirNumber, held}
 use Rattle.records.specs.Records.{Target, Record, names, begin, end, assign, if, else, fi, from, loop, until, call, uncall, skip, kind}
 use Rattle.order.specs.Trees.{Tree, procedures, recordsOf}
 use Rattle.program.specs.Says.{Accepts, thereIn}
-use Rattle.records.specs.Walk.{word}
-use Rattle.records.specs.Reading.{recordAs, there}
+use Rattle.records.specs.Faults.{word}
+use Rattle.records.specs.Reading.{recordAs}
 use Rattle.records.specs.Walk.{offsets}
 use Rattle.moves.specs.Labels.{at}
 use Rattle.moves.specs.Stores.{Reason, wrongValue, atEnd, tooDeep, number, Answer, ok, no, bind, Store, layout, answered, evaluated, holds, assigned}

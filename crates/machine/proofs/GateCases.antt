@@ -9,7 +9,7 @@ use borrow.Author.Tests.{ne-eqb, eqb-true, eqb-false}
 use lib.Dec.{eqb}
 use lib.ListN.{length, getD, set, replicate, length-set, length-replicate, getD-replicate}
 use lib.Seq.{getD-set-same, getD-set-other}
-use Rattle.records.specs.Walk.{word}
+use Rattle.records.specs.Faults.{word}
 use Rattle.machine.specs.declared.decide.Spot.{Spot}
 use Rattle.machine.specs.declared.decide.Move.{Move}
 use Rattle.machine.specs.Decide.{lookIn, gateOf, alongOf, enteredTo, enteredOf}

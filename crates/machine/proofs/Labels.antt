@@ -12,7 +12,7 @@ use Rattle.place.specs.Slots.{dirNumber}
 use Rattle.records.specs.Records.{Record, names, skip, kind, body, encodeRecord, Formed, FineFrom}
 use Rattle.order.specs.Trees.{Tree, recordsOf}
 use Rattle.program.specs.Says.{Accepts}
-use Rattle.records.specs.Walk.{word}
+use Rattle.records.specs.Faults.{word}
 use Rattle.records.specs.Reading.{recordAs}
 use Rattle.records.specs.Walk.{offsets}
 use Rattle.records.proofs.Offsets.{record-at, word-is, short-is, size-of}

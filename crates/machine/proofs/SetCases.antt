@@ -18,7 +18,7 @@ use Rattle.values.specs.Values.{wrap, xorZ}
 use Rattle.expr.specs.Tree.{Fault, byZero, badIndex as outside, Worth, value, stop}
 use Rattle.expr.specs.Bytes.{Got, parse}
 use Rattle.expr.specs.Answers.{packedWorth, InCell, arraysOf, worthAt, WorthSays, movedTo, faultNumber}
-use Rattle.records.specs.Walk.{word}
+use Rattle.records.specs.Faults.{word}
 use Rattle.moves.specs.Stores.{Answer, ok, no, Reason, number, badIndex, bind, Store, answered, reasonOf, applied}
 use Rattle.machine.specs.Sets.{operatorAt, worked, faultOf, entryBy, EntrySays, Leaves, setTo, setEntry, setAt}
 

@@ -15,8 +15,9 @@ use Rattle.expr.proofs.Agree.{eval-agree}
 use Rattle.place.specs.Slots.{dirNumber}
 use Rattle.records.specs.Records.{Target, cell, entry, Record, assign, kind}
 use Rattle.order.specs.Trees.{Tree, recordsOf}
+use Rattle.records.specs.Faults.{word}
 use Rattle.records.specs.Reading.{recordAs}
-use Rattle.records.specs.Walk.{word, offsets}
+use Rattle.records.specs.Walk.{offsets}
 use Rattle.moves.specs.Labels.{at}
 use Rattle.moves.specs.Places.{Dir, down, up}
 use Rattle.moves.specs.Stores.{Answer, ok, no, badIndex, bind, Store, layout, answered, evaluated, applied, operator, entryAt, cellOf, assigned}

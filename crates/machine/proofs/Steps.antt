@@ -17,7 +17,7 @@ use Rattle.place.proofs.Laws.{top-held, top-held-none}
 use Rattle.records.specs.Records.{begin, end, call, uncall, kind}
 use Rattle.order.specs.Trees.{Tree, recordsOf}
 use Rattle.program.specs.Says.{Accepts}
-use Rattle.records.specs.Walk.{word}
+use Rattle.records.specs.Faults.{word}
 use Rattle.records.specs.Reading.{recordAs}
 use Rattle.moves.specs.Places.{calls, Fits}
 use Rattle.moves.specs.Stores.{Reason, atEnd, wrongValue, zeroDivisor, badIndex, tooDeep, number, Answer, ok, no, Store}

@@ -10,7 +10,7 @@ use Rattle.values.specs.Values.{isTrue}
 use Rattle.expr.specs.Tree.{Worth, value, stop}
 use Rattle.expr.specs.Answers.{worthAt, faultNumber}
 use Rattle.expr.specs.Bytes.{parse}
-use Rattle.records.specs.Walk.{word}
+use Rattle.records.specs.Faults.{word}
 use Rattle.moves.specs.Stores.{Answer, ok, no, number, Store}
 use Rattle.machine.specs.Sets.{setAt}
 use Rattle.machine.specs.declared.decide.Spot.{Spot}

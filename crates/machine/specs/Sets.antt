@@ -9,7 +9,7 @@ use lib.IntN.{ℤ, pos, negsuc}
 use Rattle.expr.specs.Tree.{Arrays, Worth, value, stop}
 use Rattle.expr.specs.Answers.{arraysOf, worthAt}
 use Rattle.expr.specs.Bytes.{parse}
-use Rattle.records.specs.Walk.{word}
+use Rattle.records.specs.Faults.{word}
 use Rattle.moves.specs.Stores.{Answer, ok, no, Reason, number, badIndex, bind, Store, answered, applied}
 
 abbrev pub operatorAt : ℕ → ℕ → ℕ

@@ -13,7 +13,7 @@ use Rattle.expr.specs.Bytes.{whole}
 use Rattle.expr.specs.Answers.{knownOf, seenOf}
 use Rattle.expr.specs.declared.Known.{Known}
 use Rattle.expr.specs.declared.Seen.{Seen}
-use Rattle.records.specs.Walk.{word}
+use Rattle.records.specs.Faults.{word}
 use Rattle.records.specs.Walk.{kindAt}
 use Rattle.records.specs.Reading.{tests, calls}
 use Rattle.names.specs.Names.{exprAt, past, thereScalar, thereArray, thereSet, thereCall, thereAt, freeScalar, freeArray, freeAt, passes}

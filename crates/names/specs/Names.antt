@@ -7,7 +7,7 @@ use lib.Dec.{ltb, eqb}
 use Rattle.expr.specs.Tree.{Expr, known}
 use Rattle.expr.specs.Agreement.{occurs, scalar, array}
 use Rattle.expr.specs.Bytes.{whole}
-use Rattle.records.specs.Walk.{word}
+use Rattle.records.specs.Faults.{word}
 use Rattle.records.specs.Walk.{kindAt}
 use Rattle.records.specs.Reading.{tests, calls}
 use Rattle.names.specs.declared.First.{First}

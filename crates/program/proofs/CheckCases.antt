@@ -5,7 +5,7 @@ use mathlib.Core.Bool.{true, false}
 use Prim.Native.Nat.{ℕ, _≤_, _<_}
 use lib.ListN.{length}
 use borrow.Author.Tests.{lt-ltb, le-ltb}
-use Rattle.records.specs.Walk.{word}
+use Rattle.records.specs.Faults.{word}
 use Rattle.records.specs.Walk.{offsets, kindsAt}
 use Rattle.records.specs.Reading.{walkOf}
 use Rattle.order.specs.Order.{orderOf}

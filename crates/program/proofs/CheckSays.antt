@@ -17,8 +17,7 @@ use lib.ListN.{length, getD}
 use Rattle.codes.specs.Codes.{AllBytes}
 use Rattle.records.specs.Records.{Record, skip, kind, begins}
 use Rattle.order.specs.Trees.{Stmt, setS, skipS, callS, uncallS, ifS, fromS, Block, one, _then_, Tree, recordsS, recordsB, recordsP, recordsOf, procedures, cells, Ordered}
-use Rattle.records.specs.Faults.{Wrong, cut, unknown, malformed, oversize, Rows}
-use Rattle.records.specs.Walk.{word}
+use Rattle.records.specs.Faults.{Wrong, cut, unknown, malformed, oversize, word, Rows}
 use Rattle.program.specs.Says.{Given, fault, counts, given, All, thereIn, Accepts, Says, too-long, in-turn, order, not-there, own-name, accepted}
 use Rattle.records.specs.Walk.{offsets, kindsAt}
 use Rattle.records.specs.Reading.{walkOf, free}

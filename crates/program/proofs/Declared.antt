@@ -6,8 +6,7 @@ use lib.ListN.{length, drop}
 use Rattle.codes.proofs.Rows.{short-back}
 use Rattle.records.specs.Records.{Record, names, kind, body, encodeRecord, bytesOf, Formed, InSize, FineFrom}
 use Rattle.order.specs.Trees.{Tree, recordsP, recordsOf, procedures, Ordered}
-use Rattle.records.specs.Faults.{Rows}
-use Rattle.records.specs.Walk.{word}
+use Rattle.records.specs.Faults.{word, Rows}
 use Rattle.records.specs.Reading.{shortsAt}
 use Rattle.records.proofs.Bytes.{front-rest, shorts-back}
 

@@ -11,7 +11,7 @@ use Rattle.expr.specs.Agreement.{occurs, scalar, array}
 use Rattle.expr.specs.Bytes.{Stands, Got, whole}
 use Rattle.expr.proofs.Format.{got, whole-of}
 use Rattle.records.specs.Records.{cell, entry, Record, names, begin, end, assign, if, else, fi, from, loop, until, call, uncall, skip, kind, body, encodeRecord, Plain, Formed}
-use Rattle.records.specs.Walk.{word}
+use Rattle.records.specs.Faults.{word}
 use Rattle.records.specs.Walk.{kindAt}
 use Rattle.records.specs.Reading.{tests, calls, free, there}
 use Rattle.names.specs.Names.{exprAt, past, thereScalar, thereArray, thereCall, thereAt, freeScalar, freeArray, freeAt}

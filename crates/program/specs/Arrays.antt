@@ -3,7 +3,7 @@ use Prim.Native.Nat.{ℕ, _+_, _%_, min}
 use mathlib.Core.List.{List, [], _∷_}
 use lib.ListN.{replicate}
 use lib.Seq.{sets}
-use Rattle.records.specs.Walk.{word}
+use Rattle.records.specs.Faults.{word}
 use Rattle.records.specs.Reading.{shortsAt}
 
 -- "A 0 to 16": of more arrays the first 16.

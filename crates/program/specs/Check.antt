@@ -5,7 +5,7 @@ use mathlib.Core.Bool.{Bool, true, false, cond}
 use lib.ListN.{length}
 use lib.Dec.{ltb}
 use Rattle.records.specs.Records.{sum}
-use Rattle.records.specs.Walk.{word}
+use Rattle.records.specs.Faults.{word}
 use Rattle.records.specs.Walk.{offsets, kindsAt}
 use Rattle.records.specs.Reading.{shortsAt, walkOf}
 use Rattle.order.specs.Order.{orderOf}

@@ -3,7 +3,7 @@ ghost use mathlib.Core.Path.{_≡_};
 ghost use Prim.Native.Nat.{_≤_, min};
 ghost use lib.Seq.{sets};
 ghost use lib.ListN.{replicate};
-ghost use Rattle.records.specs.Walk.{word};
+ghost use Rattle.records.specs.Faults.{word};
 ghost use Rattle.records.specs.Reading.{shortsAt};
 ghost use Rattle.program.specs.Arrays.{arrayCount, startsFrom, arraysAt};
 

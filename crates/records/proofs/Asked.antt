@@ -16,8 +16,7 @@ use lib.Seq.{getD-drop, take-append-seam}
 use Rattle.codes.specs.Codes.{bytes16, AllBytes}
 use Rattle.codes.proofs.Rows.{short-lt}
 use Rattle.records.specs.Records.{Record, kind, body, encodeRecord, Formed, InSize}
-use Rattle.records.specs.Faults.{Cut, Unknown, Starts, Wrong, cut, unknown, malformed, oversize}
-use Rattle.records.specs.Walk.{word}
+use Rattle.records.specs.Faults.{word, Cut, Unknown, Starts, Wrong, cut, unknown, malformed, oversize}
 use Rattle.records.specs.Walk.{stride, kindAt}
 use Rattle.records.specs.Reading.{stop, recordAt, formedAt, sizedAt, cutAt, unknownAt, wrongAt}
 use Rattle.records.proofs.Bytes.{Lies, lies-short, lies-join, front-rest}

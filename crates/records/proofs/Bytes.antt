@@ -9,7 +9,7 @@ use lib.Seq.{drop-drop, drop-append-seam}
 use Rattle.codes.specs.Codes.{bytes16, AllBytes}
 use Rattle.codes.proofs.Rows.{one-byte, short-bytes, short-back, short-lt}
 use Rattle.records.specs.Records.{Every}
-use Rattle.records.specs.Walk.{word}
+use Rattle.records.specs.Faults.{word}
 use Rattle.records.specs.Reading.{shortsAt}
 
 -- the bytes of a row of numbers, and that two bytes hold each

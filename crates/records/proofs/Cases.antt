@@ -14,7 +14,7 @@ use Rattle.expr.specs.declared.End.{End}
 use Rattle.expr.specs.declared.End.the-variants.{At, Bad}
 use Rattle.expr.proofs.Layer.{parse-out}
 use Rattle.records.specs.Records.{isBegin, sum}
-use Rattle.records.specs.Walk.{word}
+use Rattle.records.specs.Faults.{word}
 use Rattle.records.specs.Walk.{kindAt}
 use Rattle.records.specs.Reading.{stop, exprAt, fills, tests, calls, setBody, formedAs, shortsAt, lengthsFit, cellsFit, namesFit, sizedAs, cutAt, unknownAt, wrongAt}
 use Rattle.records.proofs.Bytes.{length-shorts}

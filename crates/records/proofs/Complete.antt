@@ -11,7 +11,7 @@ use Rattle.codes.proofs.Rows.{short-back, head-of, byte-of}
 use Rattle.expr.specs.Tree.{Expr, encode}
 use Rattle.expr.proofs.Format.{complete}
 use Rattle.records.specs.Records.{Record, Target, cell, entry, names, begin, end, assign, if, else, fi, from, loop, until, call, uncall, skip, kind, body, Formed, Plain}
-use Rattle.records.specs.Walk.{word}
+use Rattle.records.specs.Faults.{word}
 use Rattle.records.specs.Reading.{stop, exprAt, testBody, namesBody, setBody, formedAs, recordAs, shortsAt, targetAt, valueAt}
 use Rattle.records.proofs.Bytes.{front-rest, after, length-words, shorts-back}
 

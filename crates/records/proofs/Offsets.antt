@@ -10,7 +10,7 @@ use borrow.Author.Tests.{lt-ltb, le-ltb}
 use lib.ListN.{length, drop, getD, length-append, length-drop}
 use lib.Seq.{drop-cons}
 use Rattle.records.specs.Records.{Record, names, begin, end, assign, if, else, fi, from, loop, until, call, uncall, skip, kind, body, encodeRecord, bytesOf}
-use Rattle.records.specs.Walk.{word}
+use Rattle.records.specs.Faults.{word}
 use Rattle.records.specs.Walk.{stride, kindAt, offsets, offsetsFrom, kindsAt}
 use Rattle.codes.proofs.Rows.{short-back}
 use Rattle.records.proofs.Bytes.{front-rest, after, room}

@@ -14,7 +14,7 @@ use Rattle.expr.specs.Bytes.{Stands}
 use Rattle.expr.proofs.Layer.{and-true}
 use Rattle.expr.proofs.Format.{sound}
 use Rattle.records.specs.Records.{Record, names, assign, kind, body, Formed, Plain}
-use Rattle.records.specs.Walk.{word}
+use Rattle.records.specs.Faults.{word}
 use Rattle.records.specs.Reading.{stop, exprAt, fills, shortsAt, targetAt, valueAt, indexed, recordAs, setBody, formedAs}
 use Rattle.records.proofs.Bytes.{words, Lies, lies-none, lies-of, lies-join, lies-byte, lies-short, lies-shorts, shorts-small, length-shorts}
 use Rattle.records.proofs.Thirteen.{kind-cases}

@@ -4,7 +4,7 @@ use mathlib.Core.List.{List}
 use mathlib.Core.Logic.{_⊎_}
 use mathlib.Core.Path.{_≡_}
 use lib.ListN.{length, take}
-use Rattle.codes.specs.Codes.{word16 as word}
+pub use Rattle.codes.specs.Codes.{word16 as word}
 use Rattle.records.specs.Records.{Record, encodeRecord, bytesOf, Formed, InSize, FineFrom}
 
 -- 2: "1 to 3 bytes left, length under 4 or past the end"

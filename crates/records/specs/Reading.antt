@@ -7,7 +7,7 @@ use lib.ListN.{length, getD}
 use lib.Dec.{ltb, leb, eqb}
 use Rattle.expr.specs.Bytes.{Got, parse}
 use Rattle.records.specs.Records.{Target, cell, entry, Record, names, begin, end, assign, if, else, fi, from, loop, until, call, uncall, skip, row, sum, isBegin}
-use Rattle.records.specs.Walk.{word}
+use Rattle.records.specs.Faults.{word}
 use Rattle.records.specs.Walk.{stride, kindAt}
 use Rattle.records.specs.declared.Walked.{Walked}
 use Rattle.records.specs.declared.Walked.the-variants.{Fine, Faulty}

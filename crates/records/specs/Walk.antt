@@ -4,7 +4,7 @@ use mathlib.Core.List.{List, [], _∷_}
 use mathlib.Core.Bool.{cond}
 use lib.ListN.{length}
 use lib.Dec.{ltb}
-pub use Rattle.codes.specs.Codes.{word16 as word}
+use Rattle.records.specs.Faults.{word}
 
 -- A record's own length; 4 where it says less, so that every walk ends.
 abbrev pub stride : List ℕ → ℕ → ℕ

@@ -3,7 +3,7 @@ use crate::Walked;
 ghost use mathlib.Core.Path.{_≡_};
 ghost use Rattle.records.specs.Records.{isBegin};
 ghost use Rattle.records.specs.Reading.{exprAt, fills, tests, calls, setBody, formedAs, shortsAt, cellsFit, namesFit, sizedAs, wrongAt, walkOf};
-ghost use Rattle.records.specs.Walk.{word};
+ghost use Rattle.records.specs.Faults.{word};
 ghost use Prim.Native.Nat.{_+_};
 
 // The expression at `at` fills its place up to `stop`.
