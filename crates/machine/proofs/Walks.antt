@@ -90,15 +90,15 @@ pub data Walked (f : List ℕ) : Held → Store → Held → Store → Type 0 wh
   here : {q : Held} {σ : Store} → Walked f q σ q σ
   onward : (w : Wish) {a : Told} {q q₁ q′ : Held} {σ σ₁ σ′ : Store} → StepSays (wished w) f q σ a q₁ σ₁ → Walked f q₁ σ₁ q′ σ′ → Walked f q σ q′ σ′
 
+-- A step that arrives is one of a walk.
+arrives : (t : Tree) (w : Wish) {p p₁ p′ : Place} {σ σ₁ σ′ : Store} → wished w t p σ ≡ ok (p₁, σ₁) → Walk t p₁ σ₁ p′ σ′ → Walk t p σ p′ σ′
+arrives t forward e r = on (inl e) r
+arrives t back e r = on (inr e) r
+
 module _ {f : List ℕ} (B : AllBytes f) {t : Tree} where
   keeps : Accepts f t → (w : Wish) (p : Place) → Fits t p → (σ : Store) → Sized t σ → (p′ : Place) (σ′ : Store) → wished w t p σ ≡ ok (p′, σ′) → Fits t p′ × Sized t σ′
   keeps A forward p h σ so p′ σ′ e = let u = theorems.back-undoes-forward A p h σ so p′ σ′ e in (u .0, u .1)
   keeps A back p h σ so p′ σ′ e = let u = theorems.forward-undoes-back A p h σ so p′ σ′ e in (u .0, u .1)
-
-  -- A step that arrives is one of a walk.
-  arrives : (w : Wish) {p p₁ p′ : Place} {σ σ₁ σ′ : Store} → wished w t p σ ≡ ok (p₁, σ₁) → Walk t p₁ σ₁ p′ σ′ → Walk t p σ p′ σ′
-  arrives forward e r = on (inl e) r
-  arrives back e r = on (inr e) r
 
   -- What a step leads to: a walk of no steps or one.
   after : (w : Wish) {q q₁ : Held} {σ σ₁ : Store} {p : Place} {a : Told} → Ready f q σ t p → Range σ → StepSays (wished w) f q σ a q₁ σ₁
@@ -117,7 +117,7 @@ module _ {f : List ℕ} (B : AllBytes f) {t : Tree} where
         p₁,
         record { accepts = R .accepts; sized = ap length e₃ ∙ u .1 .size; holds = e₂; fits = u .0 },
         subst Range (sym e₃) (u .1 .range),
-        λ p′ σ′ r. arrives w e (subst (λ τ. Walk t p₁ τ p′ σ′) e₃ r),
+        λ p′ σ′ r. arrives t w e (subst (λ τ. Walk t p₁ τ p′ σ′) e₃ r),
       )
 
   walked : {q q′ : Held} {σ σ′ : Store} {p : Place} → Ready f q σ t p → Range σ → Walked f q σ q′ σ′ → (p′ : Place) × (q′ ≡ held p′) × Walk t p σ p′ σ′

@@ -25,6 +25,7 @@ use Rattle.moves.specs.Stores.{Answer, ok, no, bind, Store, startsFrom}
 use Rattle.moves.specs.Step.{step, stepBack}
 use Rattle.moves.specs.Runs.{stopNumber, onward, runBy, run, runBack}
 use Rattle.moves.specs.Runs as runs
+use Rattle.moves.proofs.Runs.{counted}
 use Rattle.moves.proofs.Accepted.{accepted-wf}
 use Rattle.moves.proofs.Match.{Placed, fits-placed}
 use Rattle.moves.proofs.Undo.{turn-turn, turn-fits}
@@ -159,7 +160,7 @@ module _ (t : Tree) where
       go : (a : Answer (Place × Store)) → ((p : Place) (σ : Store) → runBack t n (turn p) σ ≡ turnedRan (run t n p σ))
           → onward (turns a) (λ p σ. runBy (stepBack t) n p σ) (turn p) σ ≡ turnedRan (onward a (λ p σ. runBy (step t) n p σ) p σ)
       go (no r) ih = refl
-      go (ok s) ih = ap runs.counted (ih (s .0) (s .1))
+      go (ok s) ih = ap counted (ih (s .0) (s .1))
 
 module _ (f : List ℕ) (q : Held) (σ : Store) where
   turned-holds : (p : Place) → turnedOf q ≡ held p → q ≡ held (turn p)

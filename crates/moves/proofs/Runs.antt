@@ -15,7 +15,7 @@ abbrev Step : Type 0
 Step = Place → Store → Answer (Place × Store)
 
 -- One step more.
-abbrev counted : Ran → Ran
+abbrev pub counted : Ran → Ran
 counted r = record { steps = suc (r .steps); place = r .place; store = r .store; stop = r .stop }
 
 -- k single steps lead from p and σ to p′ and σ′.

@@ -3,7 +3,7 @@ use Prim.Native.Nat.{ℕ, suc, _+_}
 use mathlib.Core.List.{List, [], _∷_, _++_}
 use Rattle.order.specs.Trees.{Stmt, setS, skipS, callS, uncallS, ifS, fromS, Block, one, _then_, Tree, procedures}
 pub use Rattle.place.specs.Places.{Frame, inThen, inElse, inDo, inLoop, called, frameKind, frameLabel}
-use Rattle.moves.specs.Labels.{sizeS, sizeB, exit, middle, ending}
+use Rattle.moves.specs.Labels.{sizeS, sizeB, exit}
 
 -- A downward edge from a to b, in the procedure `proc`, inside the constructs `within`, innermost first.
 pub record Edge : Type 0 where
@@ -16,18 +16,18 @@ abbrev pub edge : ℕ → List Frame → ℕ → ℕ → Edge
 edge q F a b = record { proc = q; within = F; a = a; b = b }
 
 unfoldable mutual
-  -- The edges inside a statement of procedure q whose entry is n, which the constructs F enclose.
+  -- The edges inside a statement of procedure q whose entry is n, which the constructs F enclose; m is its ELSE or LOOP, z its FI or UNTIL.
   pub edgesS : Stmt → ℕ → List Frame → ℕ → List Edge
   edgesS (setS o t e) q F n = []
   edgesS skipS q F n = []
   edgesS (callS p) q F n = []
   edgesS (uncallS p) q F n = []
   -- "IF to the entry of either branch and their exits to FI"
-  edgesS (ifS e s t e′) q F n =
-      edgesB s q (inThen n ∷ F) n (suc n) (ending n s t) ++ edgesB t q (inElse n ∷ F) n (suc (middle n s)) (ending n s t)
+  edgesS (ifS e s t e′) q F n = let m = suc n + sizeB s in let z = suc m + sizeB t in
+      edgesB s q (inThen n ∷ F) n (suc n) z ++ edgesB t q (inElse n ∷ F) n (suc m) z
   -- "FROM to the entry of s1, its exit to UNTIL, UNTIL to the entry of s2, its exit to FROM"
-  edgesS (fromS e s t e′) q F n =
-      edgesB s q (inDo n ∷ F) n (suc n) (ending n s t) ++ edgesB t q (inLoop n ∷ F) (ending n s t) (suc (middle n s)) n
+  edgesS (fromS e s t e′) q F n = let m = suc n + sizeB s in let z = suc m + sizeB t in
+      edgesB s q (inDo n ∷ F) n (suc n) z ++ edgesB t q (inLoop n ∷ F) z (suc m) n
 
   -- A row of statements from label n on: from the label a to the first entry; "each exit to the next entry"; the last exit to the label z.
   pub edgesB : Block → ℕ → List Frame → (a n z : ℕ) → List Edge

@@ -1,9 +1,9 @@
 -- Document 01, 'Labels, places, moves': which record has which label.
-use Prim.Native.Nat.{ℕ, zero, suc, _+_, pred}
-use mathlib.Core.List.{List, [], _∷_}
+use Prim.Native.Nat.{ℕ, suc, _+_, pred}
+use mathlib.Core.List.{[]}
 use lib.ListN.{getD}
 use Rattle.records.specs.Records.{Record, names}
-use Rattle.order.specs.Trees.{Stmt, setS, skipS, callS, uncallS, ifS, fromS, Block, one, _then_, Tree, procedures, recordsOf}
+use Rattle.order.specs.Trees.{Stmt, setS, skipS, callS, uncallS, ifS, fromS, Block, one, _then_, Tree, recordsOf}
 
 -- "A record's label is its number in the file, from 0."
 abbrev pub at : Tree → ℕ → Record
@@ -27,10 +27,3 @@ unfoldable mutual
 -- The entry is the statement's first label n.
 abbrev pub exit : Stmt → ℕ → ℕ
 exit s n = pred (n + sizeS s)
-
--- The label of the ELSE or LOOP, and of the FI or UNTIL, of a construct whose IF or FROM is n.
-abbrev pub middle : ℕ → Block → ℕ
-middle n s = suc n + sizeB s
-
-abbrev pub ending : ℕ → Block → Block → ℕ
-ending n s t = suc (middle n s) + sizeB t

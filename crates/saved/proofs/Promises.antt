@@ -18,7 +18,8 @@ use Rattle.place.proofs.Held.{held-injective, seen-held}
 use Rattle.order.specs.Trees.{Tree, cells}
 use Rattle.moves.specs.Stores.{Store}
 use Rattle.fits.proofs.Few.{frames-few}
-use Rattle.session.specs.Session.{encode, LabelsFit, CellsFit, Fit}
+use Rattle.session.specs.Session.{encode, Fit}
+use Rattle.session.specs.Parts.{LabelsFit, CellsFit}
 use Rattle.session.proofs.Reading.{encode-injective}
 use Rattle.session.proofs.Round.{Numbers, labels-in}
 use Rattle.machine.specs.declared.Told.{Told}

@@ -4,7 +4,7 @@
 --     length-encode  how long a file is
 use mathlib.Core.Path.{_≡_, refl, sym, ap, _∙_}
 use mathlib.Core.Bool.{Bool, true, false, cond}
-use mathlib.Core.List.{List, [], _∷_, _++_, map}
+use mathlib.Core.List.{List, [], _∷_, _++_, map, flatMap}
 use Prim.Native.Nat.{ℕ, zero, suc, _+_, _*_, _≤_, _<_}
 use native.Mathlib.Omega.{arith}
 use lib.Dec.{leb}
@@ -17,7 +17,8 @@ use Rattle.place.specs.declared.Place.{Place as Held}
 use Rattle.place.specs.Places.{Frame, frameKind, frameLabel, Place}
 use Rattle.place.specs.Slots.{slots, held, Plain, dirNumber, dirOf, frameOf, framesIn, seen}
 use Rattle.place.proofs.Held.{kind-of, label-of, dir-of, length-frames, plain-seen, plain-kind, plain-direction}
-use Rattle.session.specs.Session.{encodeFrames, encodeHead, encodeCells, encodeStore, encode}
+use Rattle.session.specs.Session.{encodeStore, encode}
+use Rattle.session.specs.Parts.{encodeFrames, encodeHead, encodeCells}
 use Rattle.session.specs.Reader.{kindsOk, framesAt, placeAt}
 use Rattle.session.specs.Answers.{slotBytes, column, heldAt}
 use Rattle.session.proofs.Rows.{word-at}
@@ -48,7 +49,7 @@ held-at s y =
 
 -- ---- from the slots of a struct
 slots-frames : (n : ℕ) (ks ls : List ℕ) → ((k : ℕ) → k < n → getD ks k 0 ≤ 4) → encodeFrames (framesIn n ks ls) ≡ slotBytes n ks ls
-unfolding encodeFrames framesIn slotBytes
+unfolding framesIn slotBytes flatMap
 slots-frames zero ks ls small = refl
 slots-frames (suc n) ks ls small =
     rw (kind-of (getD ks n 0) (getD ls n 0) (small n (omega arith)), label-of (getD ks n 0) (getD ls n 0), slots-frames n ks ls (λ k h. small k (omega arith)))
@@ -67,12 +68,12 @@ encode-seen h zs y =
 
 -- ---- lengths
 pub length-encodeFrames : (fs : List Frame) → length (encodeFrames fs) ≡ 4 * length fs
-unfolding encodeFrames
+unfolding flatMap
 length-encodeFrames [] = refl
 length-encodeFrames (f ∷ fs) = omega (arith, length-encodeFrames fs)
 
 pub length-encodeCells : (zs : List ℤ) → length (encodeCells zs) ≡ 4 * length zs
-unfolding encodeCells
+unfolding flatMap
 length-encodeCells [] = refl
 length-encodeCells (z ∷ zs) = omega (arith, length-encodeCells zs)
 

@@ -1,10 +1,11 @@
 -- The definitions, tried on files written out by hand. Assumes nothing.
 use mathlib.Core.Path.{_≡_, refl}
-use mathlib.Core.List.{List, [], _∷_, _++_}
+use mathlib.Core.List.{List, [], _∷_, _++_, flatMap}
 use Prim.Native.Nat.{ℕ}
 use lib.IntN.{ℤ, pos, negsuc}
 use Rattle.place.specs.Places.{down, up, inThen, inElse, inDo, inLoop, called, frameKind, frameLabel, Place}
-use Rattle.session.specs.Session.{encodeFrames, encodeCells, encode}
+use Rattle.session.specs.Session.{encode}
+use Rattle.session.specs.Parts.{encodeFrames, encodeCells}
 use Rattle.session.specs.Reader.{Reading, malformed, found, headOk, kindsOk, storeOk, framesAt, cellsFrom, reading}
 
 -- up from 5 to 258, in s2 of the loop at 3 in the call at 700
@@ -25,7 +26,7 @@ abbrev pub cells : List ℕ
 cells = 12 ∷ 0 ∷ 33 ∷ 0 ∷ 3 ∷ 0 ∷ 0 ∷ 0 ∷ 255 ∷ 255 ∷ 255 ∷ 255 ∷ []
 
 pub line-file : encode place store ≡ head 1 0 20 ++ frames 3 ++ cells
-unfolding encodeFrames encodeCells
+unfolding flatMap
 line-file = refl
 
 pub line-read : reading (head 1 0 20 ++ frames 3 ++ cells) ≡ found place store

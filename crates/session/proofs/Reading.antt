@@ -6,7 +6,7 @@
 --     encode-injective  two different places or stores have different files
 use mathlib.Core.Path.{_≡_, refl, sym, ap, _∙_, subst}
 use mathlib.Core.Bool.{Bool, true, false, cond}
-use mathlib.Core.List.{List, [], _∷_, _++_, append-assoc, append-nil}
+use mathlib.Core.List.{List, [], _∷_, _++_, append-assoc, append-nil, flatMap}
 use Prim.Native.Nat.{ℕ, zero, suc, _+_, _*_, _-_, _/_, _%_, _^_, _≤_, _<_}
 use native.Mathlib.Nat.{add-zero}
 use native.Mathlib.Omega.{arith}
@@ -24,7 +24,8 @@ use Rattle.codes.proofs.Rows.{short-lt, short-bytes, short-back, cell-fits, cel
 use Rattle.place.specs.Places.{Frame, frameKind, frameLabel, Place}
 use Rattle.place.specs.Slots.{dirNumber, dirOf, frameOf}
 use Rattle.place.proofs.Held.{kind-of, label-of, dir-of, dir-back, frame-back, dir-small, kind-small}
-use Rattle.session.specs.Session.{encodeFrames, encodeHead, encodePlace, encodeCells, encodeStore, encode, LabelsFit, CellsFit, Fit, Reads}
+use Rattle.session.specs.Session.{encodePlace, encodeStore, encode, Fit, Reads}
+use Rattle.session.specs.Parts.{encodeFrames, encodeHead, encodeCells, LabelsFit, CellsFit}
 use Rattle.session.specs.Reader.{Reading, malformed, found, headOk, kindsOk, storeOk, framesAt, cellsFrom, placeAt, cellsStart, cellCount, cellsAt, reading}
 use Rattle.session.specs.Answers.{isFound}
 use Rattle.session.proofs.Rows.{word-at, word-after}
@@ -40,7 +41,7 @@ room-left : (k n : ℕ) (s : List ℕ) → k + n ≤ length s → n ≤ length (
 room-left k n s h = rw (length-drop k s) (omega arith)
 
 frames-say : (n : ℕ) (s : List ℕ) → AllBytes s → 4 * n ≤ length s → kindsOk n s ≡ true → s ≡ encodeFrames (framesAt n s) ++ drop (4 * n) s
-unfolding kindsOk framesAt encodeFrames
+unfolding kindsOk framesAt flatMap
 frames-say zero s B h e = refl
 frames-say (suc n) s B h e =
     let t = both (leb (word16 s 0) 4) (kindsOk n (drop 4 s)) e in
@@ -55,11 +56,12 @@ frames-say (suc n) s B h e =
 
 labels-fit : (n : ℕ) (s : List ℕ) → AllBytes s → LabelsFit (framesAt n s)
 unfolding framesAt
-labels-fit zero s B = tt
-labels-fit (suc n) s B = (rw (label-of (word16 s 0) (word16 s 2)) (short-lt s B 2), labels-fit n (drop 4 s) (bytes-drop s B 4))
+labels-fit zero s B i = omega arith
+labels-fit (suc n) s B zero = rw (label-of (word16 s 0) (word16 s 2)) (short-lt s B 2)
+labels-fit (suc n) s B (suc i) = labels-fit n (drop 4 s) (bytes-drop s B 4) i
 
 cells-say : (n : ℕ) (s : List ℕ) → AllBytes s → length s ≡ 4 * n → s ≡ encodeCells (cellsFrom n s)
-unfolding cellsFrom encodeCells
+unfolding cellsFrom flatMap
 cells-say zero [] B h = refl
 cells-say zero (x ∷ s) B h = absurd (omega arith)
 cells-say (suc n) s B h =
@@ -67,8 +69,9 @@ cells-say (suc n) s B h =
 
 cells-fit : (n : ℕ) (s : List ℕ) → AllBytes s → CellsFit (cellsFrom n s)
 unfolding cellsFrom
-cells-fit zero s B = tt
-cells-fit (suc n) s B = (cell-fits s B 0, cells-fit n (drop 4 s) (bytes-drop s B 4))
+cells-fit zero s B i = omega arith
+cells-fit (suc n) s B zero = cell-fits s B 0
+cells-fit (suc n) s B (suc i) = cells-fit n (drop 4 s) (bytes-drop s B 4) i
 
 module _ (s : List ℕ) (B : AllBytes s) (y : Right s) where
   abbrev n : ℕ
@@ -149,23 +152,23 @@ found-room s p zs e =
 
 -- ---- from what a file says to the bytes
 frames-found : (fs : List Frame) (rest : List ℕ) → LabelsFit fs → framesAt (length fs) (encodeFrames fs ++ rest) ≡ fs
-unfolding framesAt encodeFrames
+unfolding framesAt flatMap
 frames-found [] rest f = refl
 frames-found (g ∷ fs) rest f =
     let k : frameKind g < 2 ^ 16 = omega (arith, kind-small g) in
-    rw (number16 (frameKind g) k, number16 (frameLabel g) (f .0), frame-back g, frames-found fs rest (f .1))
+    rw (number16 (frameKind g) k, number16 (frameLabel g) (f 0), frame-back g, frames-found fs rest (λ i. f (suc i)))
 
 kinds-found : (fs : List Frame) (rest : List ℕ) → kindsOk (length fs) (encodeFrames fs ++ rest) ≡ true
-unfolding kindsOk encodeFrames
+unfolding kindsOk flatMap
 kinds-found [] rest = refl
 kinds-found (g ∷ fs) rest =
     let k : frameKind g < 2 ^ 16 = omega (arith, kind-small g) in
     rw (number16 (frameKind g) k, le-leb (frameKind g) 4 (kind-small g)) (kinds-found fs rest)
 
 cells-found : (zs : List ℤ) → CellsFit zs → cellsFrom (length zs) (encodeCells zs) ≡ zs
-unfolding cellsFrom encodeCells
+unfolding cellsFrom flatMap
 cells-found [] f = refl
-cells-found (z ∷ zs) f = rw (cell-back (encodeCells (z ∷ zs)) 0 (encodeCells zs) z (f .0) refl, cells-found zs (f .1))
+cells-found (z ∷ zs) f = rw (cell-back (encodeCells (z ∷ zs)) 0 (encodeCells zs) z (f 0) refl, cells-found zs (λ i. f (suc i)))
 
 module _ (p : Place) (zs : List ℤ) (y : Fit p zs) where
   abbrev file : List ℕ

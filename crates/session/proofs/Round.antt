@@ -18,7 +18,8 @@ use Rattle.place.specs.declared.Place.{Place as Held}
 use Rattle.place.specs.Places.{Frame, frameLabel, Place}
 use Rattle.place.specs.Slots.{held, Plain, Decides, frameOf, framesIn, seen, plainOf}
 use Rattle.place.proofs.Held.{label-of, length-frames, seen-held, plain-seen, plain-count, plain-of}
-use Rattle.session.specs.Session.{encode, LabelsFit, CellsFit, Fit, Reads}
+use Rattle.session.specs.Session.{encode, Fit, Reads}
+use Rattle.session.specs.Parts.{LabelsFit, CellsFit}
 use Rattle.session.specs.Reader.{Reading, malformed, found, reading}
 use Rattle.session.specs.Answers.{placeOf, cellsOf, filled, savedOf}
 use Rattle.session.proofs.Reading.{reading-sound, reading-encode}
@@ -80,8 +81,9 @@ pub record Numbers (h : Held) : Type 0 where
 
 pub labels-in : (n : ℕ) (ks ls : List ℕ) → ((k : ℕ) → getD ls k 0 < 2 ^ 16) → LabelsFit (framesIn n ks ls)
 unfolding framesIn
-labels-in zero ks ls f = tt
-labels-in (suc n) ks ls f = (rw (label-of (getD ks n 0) (getD ls n 0)) (f n), labels-in n ks ls f)
+labels-in zero ks ls f i = omega arith
+labels-in (suc n) ks ls f zero = rw (label-of (getD ks n 0) (getD ls n 0)) (f n)
+labels-in (suc n) ks ls f (suc i) = labels-in n ks ls f i
 
 module _ (h : Held) (zs : List ℤ) (buf : List ℕ) (nums : Numbers h) (vals : CellsFit zs) (r : ℕ) (out : List ℕ)
     (er : r ≡ length (savedOf h zs buf)) (eo : out ≡ sets buf 0 (savedOf h zs buf)) where

@@ -14,7 +14,8 @@ use Rattle.place.specs.declared.Place.{Place as Held}
 use Rattle.place.specs.Slots.{slots, held, Plain, Decides, seen, plainOf}
 use Rattle.place.specs.Methods.{blankOf}
 use Rattle.place.proofs.Held.{decided, plain-of, plain-count, yes, length-frames}
-use Rattle.session.specs.Session.{encode, encodeHead, encodeStore}
+use Rattle.session.specs.Session.{encode, encodeStore}
+use Rattle.session.specs.Parts.{encodeHead}
 use Rattle.session.specs.Reader.{Reading, malformed, found, placeAt, cellsAt, cellCount, cellsFrom, reading}
 use Rattle.session.specs.Answers.{isFound, placeOf, cellsOf, filled, sizeOf, savedOf, slotBytes, column, heldAt}
 use Rattle.session.proofs.Writing.{on}

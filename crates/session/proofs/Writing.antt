@@ -5,7 +5,7 @@
 --     cells-go, cells-end    the loop over the cells
 --     copy-go, copy-end      the loop that reads them back
 use mathlib.Core.Path.{_≡_, refl, sym, ap, _∙_}
-use mathlib.Core.List.{List, [], _∷_, _++_}
+use mathlib.Core.List.{List, [], _∷_, _++_, flatMap}
 use Prim.Native.Nat.{ℕ, zero, suc, _+_, _*_, _-_, _/_, _%_, _≤_, _<_}
 use native.Mathlib.Nat.{add-zero}
 use native.Mathlib.Numerals.{add-one}
@@ -20,7 +20,7 @@ use Rattle.codes.specs.Codes.{bytes16, cellBytes}
 use Rattle.codes.specs.Numbers.{cellAt, written}
 use Rattle.codes.proofs.Cases.{written-in}
 use Rattle.codes.proofs.Rows.{length-written}
-use Rattle.session.specs.Session.{encodeHead, encodeCells}
+use Rattle.session.specs.Parts.{encodeHead, encodeCells}
 use Rattle.session.specs.Reader.{cellsFrom}
 use Rattle.session.specs.Answers.{slotBytes}
 use Rattle.session.proofs.Rows.{cell-at, less, none}
@@ -74,7 +74,7 @@ module _ (ks ls goal l : List ℕ) (m p : ℕ) (e : goal ≡ sets l p (slotBytes
 
 -- ---- the loop over the cells, from i on
 one-cell : (z : ℤ) (zs : List ℤ) → encodeCells (z ∷ zs) ≡ cellBytes z ++ encodeCells zs
-unfolding encodeCells
+unfolding flatMap
 one-cell z zs = refl
 
 module _ (zs : List ℤ) (goal l : List ℕ) (i p : ℕ) (e : goal ≡ sets l p (encodeCells (drop i zs))) where
@@ -85,7 +85,7 @@ module _ (zs : List ℤ) (goal l : List ℕ) (i p : ℕ) (e : goal ≡ sets l p 
       ∙ ap (λ (q : List ℕ). sets q (p + 4) (encodeCells (drop (i + 1) zs))) (sym (x ∙ written-in l p _ r ∙ ap (λ (z : ℤ). sets l p (cellBytes z)) (toZ-ofZ f)))
 
   pub cells-end : length zs ≤ i → i ≤ length zs → l ≡ goal
-  unfolding encodeCells
+  unfolding flatMap
   cells-end h k = let j : i ≡ length zs = omega arith in sym (e ∙ ap (λ (q : List ℤ). sets l p (encodeCells q)) (ap (λ (n : ℕ). drop n zs) j ∙ drop-length zs))
 
 -- ---- the loop that reads cells, n - i of them left from p

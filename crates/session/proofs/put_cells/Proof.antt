@@ -4,7 +4,7 @@ use Prim.Native.Nat.{_+_, _*_, _-_, _≤_}
 use native.Mathlib.Omega.{arith}
 use lib.ListN.{length, drop}
 use lib.Seq.{sets}
-use Rattle.session.specs.Session.{encodeCells}
+use Rattle.session.specs.Parts.{encodeCells}
 use Rattle.session.proofs.Writing.{kept-written, cells-go, cells-end}
 use Rattle.session.proofs.put_cells.Statement.{statement}
 use Rattle.session.proofs.put_cells.Tie as tie

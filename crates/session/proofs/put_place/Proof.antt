@@ -1,7 +1,7 @@
 -- `session::put_place` meets its contract: the head, then the frames. Assumes nothing.
 use borrow.Author.Needs.{needs}
 use mathlib.Core.Path.{refl}
-use Rattle.session.specs.Session.{encodeHead}
+use Rattle.session.specs.Parts.{encodeHead}
 use Rattle.session.specs.Answers.{slotBytes}
 use Rattle.session.proofs.Writing.{on}
 use Rattle.session.proofs.put_place.Statement.{statement}

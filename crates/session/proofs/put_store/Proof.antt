@@ -5,7 +5,7 @@ use mathlib.Core.List.{_++_}
 use Prim.Native.Nat.{_+_, _*_}
 use lib.ListN.{length}
 use Rattle.codes.specs.Codes.{bytes16}
-use Rattle.session.specs.Session.{encodeCells}
+use Rattle.session.specs.Parts.{encodeCells}
 use Rattle.session.proofs.Writing.{on}
 use Rattle.session.proofs.put_store.Statement.{statement}
 use Rattle.session.proofs.put_store.Tie as tie
