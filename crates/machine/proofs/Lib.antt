@@ -3,6 +3,7 @@ pub mod SetCases
 pub mod GateCases
 pub mod DecideCases
 pub mod WalkCases
+pub mod CopyCases
 pub mod Room
 pub mod Labels
 pub mod Landing
