@@ -12,6 +12,7 @@ pub mod Decided
 pub mod Fates
 pub mod Calls
 pub mod Steps
+pub mod Copied
 pub mod Whole
 pub mod WholeCases
 pub mod Starts

@@ -34,7 +34,7 @@ use Rattle.machine.specs.Whole.{numberOf, startOf}
 use Rattle.machine.specs.Answers.{direction, StartSays, refused, started}
 use Rattle.machine.proofs.Labels.{along-is}
 use Rattle.machine.proofs.Calls.{gate-is, gate-side, gate-encl}
-use Rattle.machine.proofs.Whole.{agrees-bare}
+use Rattle.machine.proofs.Copied.{agrees-bare}
 
 module _ (f : List ℕ) (t : Tree) (A : Accepts f t) (d : Dir) where
   abbrev P : Prog
