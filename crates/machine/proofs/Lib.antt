@@ -3,6 +3,7 @@ pub mod SetCases
 pub mod GateCases
 pub mod DecideCases
 pub mod WalkCases
+pub mod CopyCases
 pub mod Room
 pub mod Labels
 pub mod Landing
@@ -12,6 +13,7 @@ pub mod Fates
 pub mod Calls
 pub mod Steps
 pub mod Giving
+pub mod Copied
 pub mod Whole
 pub mod WholeCases
 pub mod Starts

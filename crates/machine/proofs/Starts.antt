@@ -35,7 +35,7 @@ use Rattle.machine.specs.Answers.{numbered, direction, StartSays, refuse
 use Rattle.machine.proofs.Labels.{along-is}
 use Rattle.machine.proofs.Calls.{gate-is, gate-side, gate-encl}
 use Rattle.machine.proofs.Giving.{gives-done}
-use Rattle.machine.proofs.Whole.{agrees-bare}
+use Rattle.machine.proofs.Copied.{agrees-bare}
 
 module _ (f : List ℕ) (t : Tree) (A : Accepts f t) (d : Dir) where
   abbrev P : Prog

@@ -1,36 +1,35 @@
 -- What the public functions compute is what Answers says, for every file, struct and store.
-use Prim.Native.Nat.{ℕ, zero, suc, _+_, _^_, _≤_, _<_}
-use mathlib.Core.Path.{_≡_, refl, sym, ap, ap₂, _∙_, subst}
-use mathlib.Core.Bool.{Bool, true, false, cond, not}
-use mathlib.Core.List.{List, [], _∷_, _++_, map, reverse, reverse-cons, append-assoc, append-nil}
-use lib.ListN.{length, getD, take, drop, replicate, length-map, length-reverse, length-drop, length-replicate}
-use lib.Seq.{getD-at, take-all, length-sets}
-use lib.Dec.{eqb, leb}
+use Prim.Native.Nat.{ℕ, zero, suc, _+_, _≤_}
+use mathlib.Core.Path.{_≡_, refl, sym, ap, _∙_, subst}
+use mathlib.Core.Bool.{Bool, true, false, cond}
+use mathlib.Core.List.{List, [], _∷_, _++_, map, reverse, reverse-cons, append-assoc}
+use lib.ListN.{length, length-map, length-reverse}
+use lib.Seq.{getD-at}
+use lib.Dec.{eqb}
 use native.Mathlib.Omega.{arith}
 use borrow.Author.Tests.{eqb-true, eqb-false, le-leb}
 use Rattle.place.specs.declared.Place.{Place as Held}
-use Rattle.place.specs.Places.{Dir, opp, Frame, frameKind, Place, turn}
-use Rattle.place.specs.Slots.{held, slots, Decides}
+use Rattle.place.specs.Places.{Frame, frameKind, Place, turn}
+use Rattle.place.specs.Slots.{held, Decides}
 use Rattle.place.specs.Methods.{turnedOf}
 use Rattle.place.proofs.Laws.{turned-held, turned-twice}
-use Rattle.order.specs.Trees.{Tree, recordsOf, cells, procedures}
+use Rattle.order.specs.Trees.{Tree, recordsOf, cells}
 use Rattle.program.specs.Says.{given, Accepts, Says}
 use Rattle.program.specs.Arrays.{arraysAt}
 use Rattle.program.specs.declared.Checked.{Checked}
 use Rattle.program.specs.declared.Checked.the-variants.{Accepted, Refused as RefusedFile}
-use Rattle.program.proofs.ArrayTree.{starting, arrays-start, arrays-length}
-use Rattle.program.proofs.CheckSays.{TreeOf, accepted-of, refused-of, fault-some}
+use Rattle.program.proofs.CheckSays.{accepted-of, refused-of, fault-some}
 use Rattle.moves.specs.Places.{calls, Fits}
-use Rattle.moves.specs.Stores.{Answer, ok, no, bind, Store, startsFrom}
+use Rattle.moves.specs.Stores.{Answer, ok, no, bind, Store}
 use Rattle.moves.specs.Step.{step, stepBack}
 use Rattle.moves.specs.Runs.{stopNumber, onward, runBy, run, runBack}
 use Rattle.moves.specs.Runs as runs
 use Rattle.moves.proofs.Runs.{counted}
 use Rattle.moves.proofs.Accepted.{accepted-wf}
-use Rattle.moves.proofs.Match.{Placed, fits-placed}
+use Rattle.moves.proofs.Match.{fits-placed}
 use Rattle.moves.proofs.Undo.{turn-turn, turn-fits}
 use Rattle.table.specs.Table.{tableOf}
-use Rattle.table.proofs.Tabled.{Tabled, tabled}
+use Rattle.table.proofs.Tabled.{tabled}
 use Rattle.fits.specs.Fits.{fitsIn}
 use Rattle.fits.proofs.FitsLaw.{fits-law}
 use Rattle.machine.specs.declared.Told.{Told}
@@ -38,34 +37,13 @@ use Rattle.machine.specs.declared.Told.the-variants.{Refused}
 use Rattle.machine.specs.declared.Ran.{Ran}
 use Rattle.machine.specs.Decide.{ruleOf}
 use Rattle.machine.specs.Walk.{callsIn, callsOf, Gone, gone, goOf}
-use Rattle.machine.specs.Whole.{staying, Result, result, Runs, wentTo, checkedRun}
+use Rattle.machine.specs.Copies.{padTo, widenTo}
+use Rattle.machine.specs.Whole.{staying, Result, result, Runs, wentTo, givenBack, checkedRun}
 use Rattle.machine.specs.Answers.{Gives, numbered, Before, program, size, place, Ready, StepSays, refused, stopped, arrived, RunSays, ran}
 use Rattle.machine.proofs.Room.{room}
-use Rattle.machine.proofs.Labels.{read-at}
-use Rattle.machine.proofs.Sets.{Agrees}
 use Rattle.machine.proofs.Steps.{walked}
 use Rattle.machine.proofs.Giving.{gives-refused, by-gives}
-
--- ---- the tables of an accepted file
-starting-is : (n : ℕ) (ls : List ℕ) → starting n ls ≡ startsFrom n ls
-unfolding starting startsFrom
-starting-is n [] = refl
-starting-is n (l ∷ ls) = ap (λ x. n ∷ x) (starting-is (n + l) ls)
-
-arrays-long : (f : List ℕ) → length (arraysAt f) ≡ 32
-unfolding arraysAt
-arrays-long f = simp (length-sets, length-replicate)
-
-pub agrees : (f : List ℕ) (t : Tree) → Accepts f t → (zs bytes : List ℕ) → bytes ≡ f ++ zs → length bytes < 2 ^ 16 → Agrees t f bytes (arraysAt f)
-agrees f t A zs bytes begun short = record {
-  starts = λ a. arrays-start f t A a ∙ ap (λ (l : List ℕ). getD l a 0) (starting-is (t .scalars) (t .lengths));
-  lengths = λ a. ap (λ (l : List ℕ). getD l a 0) (take-all 16 (drop 16 (arraysAt f)) (omega (arith, length-drop 16 (arraysAt f), arrays-long f))) ∙ arrays-length f t A a;
-  reads = read-at A zs bytes begun short;
-}
-
--- the file itself
-pub agrees-bare : (f : List ℕ) (t : Tree) → Accepts f t → Agrees t f f (arraysAt f)
-agrees-bare f t A = agrees f t A [] f (sym (append-nil f)) (omega (arith, A .rows .short))
+use Rattle.machine.proofs.Copied.{agrees-bare, walked-copied}
 
 -- ---- the calls among the frames
 calls-are : (fs : List Frame) (r : List ℕ) → callsIn (reverse (map frameKind fs) ++ r) (length fs) ≡ calls fs
@@ -91,19 +69,37 @@ module _ (f : List ℕ) (q : Held) (σ : Store) (n : ℕ) where
   says-result x r τ h s = subst (λ (y : Result). Says-run (y .ran) (y .store)) (λ i. record { ran = sym (h .ran) i; store = sym (h .left) i }) s
 
   module _ (t : Tree) (A : Accepts f t) where
-    fitting : length σ ≡ cells t → (p : Place) → q ≡ held p → Fits t p → let x = wentTo (goOf (ruleOf f (tableOf f) (arraysAt f)) n q (callsOf (q .kinds) (q .count)) σ 0) in Says-run (x .ran) (x .store)
-    fitting e p h fit =
+    -- what a run to the document's end says
+    ran-says : length σ ≡ cells t → (p : Place) → q ≡ held p → Fits t p → (g : Gone)
+        → g ≡ gone (stopNumber (run t n p σ .stop)) (run t n p σ .steps) (held (run t n p σ .place)) (run t n p σ .store) → Says-run (wentTo g .ran) (wentTo g .store)
+    ran-says e p h fit g k =
+        ran (record { accepts = A; sized = e; holds = h; fits = fit })
+        (by-gives (ap (λ (x : Gone). x .went .reason) k))
+        (ap (λ (x : Gone). x .went .steps) k)
+        (ap (λ (x : Gone). x .went .place) k)
+        (ap (λ (x : Gone). x .store) k)
+
+    -- the calls are counted in the struct
+    calls-of : (p : Place) → q ≡ held p → Fits t p → callsOf (q .kinds) (q .count) ≡ calls (p .frames)
+    calls-of p h fit =
         let k = fits-placed t (accepted-wf A) p fit in
         let room-p : length (p .frames) ≤ 1104 = subst (λ p. length (p .frames) ≤ 1104) (sym (k .is)) (room A (k .cut) (k .sits)) in
-        let g : goOf (ruleOf f (tableOf f) (arraysAt f)) n q (callsOf (q .kinds) (q .count)) σ 0 ≡ gone (stopNumber (run t n p σ .stop)) (0 + run t n p σ .steps) (held (run t n p σ .place)) (run t n p σ .store) =
-        (λ i. goOf (ruleOf f (tableOf f) (arraysAt f)) n (h i) (callsOf (h i .kinds) (h i .count)) σ 0)
-        ∙ (ap (λ c. goOf (ruleOf f (tableOf f) (arraysAt f)) n (held p) c σ 0) (calls-held p room-p) ∙ walked A (tabled f t A) (agrees-bare f t A) n p fit σ 0) in
-        let z : 0 + run t n p σ .steps ≡ run t n p σ .steps = omega arith in
-        ran (record { accepts = A; sized = e; holds = h; fits = fit })
-        (by-gives (ap (λ (x : Gone). x .went .reason) g))
-        (ap (λ (x : Gone). x .went .steps) g ∙ z)
-        (ap (λ (x : Gone). x .went .place) g)
-        (ap (λ (x : Gone). x .store) g)
+        (λ i. callsOf (h i .kinds) (h i .count)) ∙ calls-held p room-p
+
+    fitting : length σ ≡ cells t → (p : Place) → q ≡ held p → Fits t p → let x = wentTo (goOf (ruleOf f (tableOf f) (arraysAt f)) n q (callsOf (q .kinds) (q .count)) σ 0) in Says-run (x .ran) (x .store)
+    fitting e p h fit =
+        let r = run t n p σ in
+        let z : 0 + r .steps ≡ r .steps = omega arith in
+        ran-says e p h fit _
+        ((λ i. goOf (ruleOf f (tableOf f) (arraysAt f)) n (h i) (calls-of p h fit i) σ 0)
+        ∙ (walked A (tabled f t A) (agrees-bare f t A) n p fit σ 0 ∙ ap (λ m. gone (stopNumber (r .stop)) m (held (r .place)) (r .store)) z))
+
+    -- the same on the copies, the cells given back
+    pub fitting-copied : length σ ≡ cells t → (p : Place) → q ≡ held p → Fits t p
+        → let x = wentTo (givenBack σ (goOf (ruleOf (padTo 32768 f) (tableOf f) (arraysAt f)) n q (callsOf (q .kinds) (q .count)) (widenTo 2048 σ) 0)) in Says-run (x .ran) (x .store)
+    fitting-copied e p h fit =
+        ran-says e p h fit _
+        ((λ i. givenBack σ (goOf (ruleOf (padTo 32768 f) (tableOf f) (arraysAt f)) n (h i) (calls-of p h fit i) (widenTo 2048 σ) 0)) ∙ walked-copied A p fit σ e n)
 
     checked-is : (records c : ℕ) → records ≡ length (recordsOf t) → c ≡ cells t → let x = checkedRun f records c q σ n in Says-run (x .ran) (x .store)
     unfolding checkedRun

@@ -3,5 +3,6 @@ pub mod Sets
 pub mod Decide
 pub mod Gates
 pub mod Walk
+pub mod Copies
 pub mod Answers
 pub mod Whole

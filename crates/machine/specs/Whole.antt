@@ -17,6 +17,7 @@ use Rattle.machine.specs.declared.Ran.{Ran}
 use Rattle.machine.specs.declared.Started.{Started}
 use Rattle.machine.specs.Decide.{gateOf, alongOf, ruleOf}
 use Rattle.machine.specs.Walk.{callsOf, Gone, goOf}
+use Rattle.machine.specs.Copies.{backTo}
 
 abbrev pub toldBy : ℕ → Told
 toldBy n = cond (eqb n 0) Done (Refused n 0)
@@ -38,6 +39,10 @@ pub record Runs (x : Result) (r : Ran) (σ : Store) : Type 0 where
 
 abbrev pub wentTo : Gone → Result
 wentTo g = result (toldBy (g .went .reason)) (g .went .steps) (g .went .place) (g .store)
+
+-- the cells of a run on a copy, given back to the store
+abbrev pub givenBack : Store → Gone → Gone
+givenBack σ g = record { went = g .went; store = backTo 2048 (g .store) σ }
 
 unfoldable pub checkedRun : List ℕ → ℕ → ℕ → Held → Store → ℕ → Result
 checkedRun f records cells q σ n =

@@ -7,6 +7,7 @@ ghost use Rattle.moves.specs.Runs.{run as running, runBack};
 ghost use Rattle.machine.specs.Answers.{StepSays, RunSays, StartSays, direction};
 ghost use Rattle.machine.specs.Whole.{toldBy, staying, Runs, checkedRun, numberOf, startOf};
 
+mod copies;
 mod decide;
 mod gates;
 mod set;
