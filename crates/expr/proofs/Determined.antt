@@ -8,6 +8,7 @@ use Rattle.expr.specs.Answers.{EndSays}
 use Rattle.expr.proofs.Format.{says}
 use Rattle.expr.proofs.expression_end.Reads as expression-end
 use Rattle.expr.proofs.worth.Reads as worth
+use Rattle.expr.proofs.amount.Reads as amount
 use Rattle.expr.proofs.mentions.Reads as mentions
 use Rattle.expr.proofs.names_known.Reads as names-known
 
@@ -29,3 +30,7 @@ module _ (κs : Lfts 1) where
 pub worth-determined : (κs : Lfts 4) (a : _) (r r′ : _) (s s′ : _) → worth.Post κs a r s → worth.Post κs a r′ s′
     → (r ≡ r′) × (s .1 .0 .now ≡ s′ .1 .0 .now)
 worth-determined κs a r r′ s s′ p q = (p .answer ∙ sym (q .answer), p .place ∙ sym (q .place))
+
+pub amount-determined : (κs : Lfts 4) (a : _) (r r′ : _) (s s′ : _) → amount.Post κs a r s → amount.Post κs a r′ s′
+    → (r ≡ r′) × (s .1 .0 .now ≡ s′ .1 .0 .now)
+amount-determined κs a r r′ s s′ p q = (p .answer ∙ sym (q .answer), p .place ∙ sym (q .place))

@@ -1,0 +1,247 @@
+-- The answers of the functions of src/set.rt, case by case, over plain numbers and lists. Assumes nothing.
+use mathlib.Core.Path.{_≡_, refl, sym, ap, ap₂, _∙_}
+use mathlib.Core.List.{List, [], _∷_}
+use mathlib.Core.Bool.{Bool, true, false, false≢true, true≢false, cond}
+use Prim.Native.Nat.{ℕ, zero, suc, _+_, _≤_, _<_}
+use native.Mathlib.Nat.{add-comm}
+use native.Mathlib.Omega.{arith}
+use borrow.Author.Tests.{eq-eqb, ne-eqb, lt-ltb, le-ltb, ltb-true}
+use lib.Dec.{ltb, eqb}
+use lib.IntN.{ℤ, pos, negsuc, _+ℤ_, _-ℤ_}
+use lib.ListN.{length, getD, take, drop, length-take, List·getD-eq-default, set as put}
+use lib.Seq.{getD-take, getD-drop, set-out}
+use lib.Signed.{ltZ}
+use mir.Syntax.{w32, w64}
+use mir.Val.{SFits, ofZ, toZ}
+use mir.Facts.{toZ-ofZ}
+use Rattle.values.specs.Values.{wrap, xorZ}
+use Rattle.expr.specs.Tree.{Fault, byZero, badIndex as outside, Worth, value, stop}
+use Rattle.expr.specs.Bytes.{Got, parse}
+use Rattle.expr.specs.Answers.{packedWorth, InCell, arraysOf, worthAt, WorthSays, movedTo, faultNumber}
+use Rattle.records.specs.Faults.{word}
+use Rattle.moves.specs.Stores.{Answer, ok, no, Reason, number, badIndex, bind, Store, answered, reasonOf, applied}
+use Rattle.decide.specs.Sets.{operatorAt, worked, faultOf, missOf, entryBy, EntrySays, targetOf, targetEnd, TargetSays, Leaves, setTo, setEntry, setAt}
+
+-- a signed number that was put in a variable, a field or an argument is read back from its bits
+abbrev again : ℤ → ℤ
+again z = toZ w32 (ofZ w32 z)
+
+abbrev again64 : ℤ → ℤ
+again64 z = toZ w64 (ofZ w64 z)
+
+-- ---- `fault`, `operator`, `apply`
+pub fault-yes : (n : ℕ) → n ≡ 4294967328 → 32 ≡ faultOf n
+fault-yes n e = rw (eq-eqb n 4294967328 e)
+
+pub fault-no : (n : ℕ) → (n ≡ 4294967328 → ⊥) → 33 ≡ faultOf n
+fault-no n e = rw (ne-eqb n 4294967328 e)
+
+-- the same as a number that no cell has
+pub missed-yes : (n : ℕ) → n ≡ 4294967328 → 131104 ≡ 131072 + faultOf n
+missed-yes n e = rw (eq-eqb n 4294967328 e)
+
+pub missed-no : (n : ℕ) → (n ≡ 4294967328 → ⊥) → 131105 ≡ 131072 + faultOf n
+missed-no n e = rw (ne-eqb n 4294967328 e)
+
+miss-fault : (n : ℕ) → missOf (131072 + faultOf n) ≡ faultOf n
+miss-fault n = go (eqb n 4294967328)
+  where
+    go : (t : Bool) → missOf (131072 + cond t 32 33) ≡ cond t 32 33
+    go true = refl
+    go false = refl
+
+pub miss-yes : (n : ℕ) → n ≡ 131104 → 32 ≡ missOf n
+miss-yes n e = rw (eq-eqb n 131104 e)
+
+pub miss-no : (n : ℕ) → (n ≡ 131104 → ⊥) → 33 ≡ missOf n
+miss-no n e = rw (ne-eqb n 131104 e)
+
+pub ruleset faults = (fault-yes, fault-no, missed-yes, missed-no, miss-yes, miss-no)
+
+module _ (o d : ℕ) where
+  pub op-down : d ≡ 0 → o ≡ operatorAt o d
+  op-down e = rw (eq-eqb d 0 e)
+
+  module _ (h : d ≡ 0 → ⊥) where
+    pub op-zero : o ≡ 0 → 1 ≡ operatorAt o d
+    op-zero e = rw (ne-eqb d 0 h, eq-eqb o 0 e)
+
+    module _ (z : o ≡ 0 → ⊥) where
+      pub op-one : o ≡ 1 → 0 ≡ operatorAt o d
+      op-one e = rw (ne-eqb d 0 h, ne-eqb o 0 z, eq-eqb o 1 e)
+
+      pub op-other : (o ≡ 1 → ⊥) → o ≡ operatorAt o d
+      op-other e = rw (ne-eqb d 0 h, ne-eqb o 0 z, ne-eqb o 1 e)
+
+pub ruleset operators = (op-down, op-zero, op-one, op-other)
+
+module _ (o : ℕ) (x v r : ℤ) (fx : SFits w32 x) (fv : SFits w32 v) (fr : SFits w32 r) where
+  pub apply-sum : o ≡ 0 → r ≡ wrap (again x +ℤ again v) → again r ≡ applied o x v
+  apply-sum e p = rw e (toZ-ofZ fr ∙ p ∙ rw (toZ-ofZ fx, toZ-ofZ fv))
+
+  pub apply-difference : o ≡ 1 → r ≡ wrap (again x -ℤ again v) → again r ≡ applied o x v
+  apply-difference e p = rw e (toZ-ofZ fr ∙ p ∙ rw (toZ-ofZ fx, toZ-ofZ fv))
+
+other : (o : ℕ) (x v : ℤ) → (o ≡ 0 → ⊥) → (o ≡ 1 → ⊥) → xorZ x v ≡ applied o x v
+other zero x v h k = absurd (h refl)
+other (suc zero) x v h k = absurd (k refl)
+other (suc (suc o)) x v h k = refl
+
+pub apply-exclusive : (o : ℕ) (x v r : ℤ) → SFits w32 x → SFits w32 v → SFits w32 r → (o ≡ 0 → ⊥) → (o ≡ 1 → ⊥) → r ≡ xorZ (again x) (again v)
+    → again r ≡ applied o x v
+apply-exclusive o x v r fx fv fr h k p = toZ-ofZ fr ∙ p ∙ rw (toZ-ofZ fx, toZ-ofZ fv) (other o x v h k)
+
+pub ruleset applies = (apply-sum, apply-difference, apply-exclusive)
+
+-- ---- `entry`: the cell of an array at an index
+module _ (l : List ℕ) (a : ℕ) where
+  far : (m : List ℕ) → 16 ≤ a → getD (take 16 m) a 0 ≡ 0
+  far m h = List·getD-eq-default (take 16 m) 0 (simp length-take (omega arith))
+
+  near-start : a < 16 → getD (arraysOf l .starts) a 0 ≡ getD l a 0
+  near-start h = getD-take 16 l a 0 h
+
+  near-length : a < 16 → getD (arraysOf l .lengths) a 0 ≡ getD l (a + 16) 0
+  near-length h = getD-take 16 (drop 16 l) a 0 h ∙ getD-drop 16 l a 0 ∙ ap (λ (i : ℕ). getD l i 0) (add-comm 16 a)
+
+  missed : (z : ℤ) (i : ℕ) → i ≡ ofZ w32 z → getD (arraysOf l .lengths) a 0 ≤ i → EntrySays (entryBy (arraysOf l) a z) 131105
+  missed (pos n) i e h = rw (le-ltb n (getD (arraysOf l .lengths) a 0) (omega arith)) (refl, omega arith)
+  missed (negsuc n) i e h = (refl, omega arith)
+
+  hit : (z : ℤ) (i : ℕ) → SFits w32 z → i ≡ ofZ w32 z → i < getD (arraysOf l .lengths) a 0 → getD (arraysOf l .lengths) a 0 < 65536
+      → (start : ℕ) → start ≡ getD (arraysOf l .starts) a 0 → start < 65536 → EntrySays (entryBy (arraysOf l) a z) (start + i)
+  hit (pos n) i f e h k start s b = rw (lt-ltb n (getD (arraysOf l .lengths) a 0) (omega arith)) (cc, omega arith)
+  hit (negsuc n) i f e h k start s b = absurd (omega arith)
+
+module _ (l : List ℕ) (a : ℕ) (z : ℤ) where
+  pub entry-far : 16 ≤ a → EntrySays (entryBy (arraysOf l) a z) 131105
+  entry-far h = missed l a z (ofZ w32 z) refl (omega (arith, far l a (drop 16 l) h))
+
+  module _ (f : SFits w32 z) (h : a < 16) (i n : ℕ) (ii : i ≡ ofZ w32 (again z)) (nn : n ≡ getD l (a + 16) 0) where
+    pub entry-out : n ≤ i → EntrySays (entryBy (arraysOf l) a z) 131105
+    entry-out k = missed l a z i (ii ∙ ap (ofZ w32) (toZ-ofZ f)) (omega (arith, near-length l a h))
+
+    pub entry-in : (start : ℕ) → i < n → n < 65536 → start < 65536 → start ≡ getD l a 0 → EntrySays (entryBy (arraysOf l) a z) (start + i)
+    entry-in start k small b ss =
+        hit l a z i f (ii ∙ ap (ofZ w32) (toZ-ofZ f)) (omega (arith, near-length l a h)) (omega (arith, near-length l a h)) start (ss ∙ sym (near-start l a h)) b
+
+pub ruleset entries = (entry-far, entry-out, entry-in)
+
+-- ---- what `worth` answers, by the test that tells
+module _ (r : ℤ) (f : SFits w64 r) where
+  pub is-stop : (w : Worth) → r ≡ packedWorth w → InCell w → ltZ (pos 2147483647) (again64 r) ≡ true → (g : Fault) × (w ≡ stop g) × (faultOf (ofZ w64 r) ≡ number (reasonOf g))
+  is-stop (stop byZero) e k t = (byZero, refl, rw e)
+  is-stop (stop outside) e k t = (outside, refl, rw e)
+  is-stop (value (pos n)) e k t = absurd (omega (arith, ltb-true 2147483647 n (rw (toZ-ofZ f, e) at t)))
+  is-stop (value (negsuc n)) e k t = absurd (false≢true (rw (toZ-ofZ f, e) at t))
+
+  pub is-value : (w : Worth) → r ≡ packedWorth w → InCell w → ltZ (pos 2147483647) (again64 r) ≡ false → (w ≡ value r) × SFits w32 r
+  is-value (value v) e k t = (ap value (sym e), rw e k)
+  is-value (stop byZero) e k t = absurd (true≢false (rw (toZ-ofZ f, e) at t))
+  is-value (stop outside) e k t = absurd (true≢false (rw (toZ-ofZ f, e) at t))
+
+  -- so it can be cast
+  pub narrow : (arr : List ℕ) (cs : List ℤ) (at : ℕ) (g : Got) (after : ℕ) → WorthSays arr cs at g r after → ltZ (pos 2147483647) (again64 r) ≡ false → SFits w32 (again64 r)
+  narrow arr cs at g after o t = rw (toZ-ofZ f) (is-value (worthAt arr cs g) (o .answer) (o .range) t .1)
+
+pub ruleset casts = (narrow)
+
+-- ---- `put`
+pub put-in : (σ : Store) (cell o : ℕ) (v r : ℤ) → SFits w32 (getD σ cell (pos 0)) → SFits w32 v → SFits w32 r
+    → r ≡ applied o (again (getD σ cell (pos 0))) (again v) → put σ cell (again r) ≡ worked σ cell o v
+put-in σ cell o v r fx fv fr p = ap (put σ cell) (toZ-ofZ fr ∙ p ∙ rw (toZ-ofZ fx, toZ-ofZ fv))
+
+pub put-out : (σ : Store) (cell o : ℕ) (v : ℤ) → length σ ≤ cell → σ ≡ worked σ cell o v
+put-out σ cell o v h = sym (set-out σ cell _ h)
+
+pub ruleset puts = (put-in, put-out)
+
+-- ---- `target`, `assign`
+module _ (r : ℤ) (f : SFits w64 r) (arr : List ℕ) (cs : List ℤ) (at : ℕ) (g : Got) (after : ℕ) (says : WorthSays arr cs at g r after) where
+  told-stop : ltZ (pos 2147483647) (again64 r) ≡ true → (n : ℕ) → n ≡ faultOf (ofZ w64 (again64 r)) → (q : Reason) × (answered (worthAt arr cs g) ≡ no q) × (n ≡ number q)
+  told-stop t n e =
+      let s = is-stop r f (worthAt arr cs g) (says .answer) (says .range) t in
+      (reasonOf (s .0), ap answered (s .1), e ∙ ap (λ z. faultOf (ofZ w64 z)) (toZ-ofZ f) ∙ s .2)
+
+  told-value : ltZ (pos 2147483647) (again64 r) ≡ false → (answered (worthAt arr cs g) ≡ ok (again (again64 r))) × (after ≡ g .next)
+  told-value t =
+      let s = is-value r f (worthAt arr cs g) (says .answer) (says .range) t in
+      let back : again (again64 r) ≡ r = ap again (toZ-ofZ f) ∙ toZ-ofZ (s .1) in
+      (ap answered (s .0) ∙ ap ok (sym back), says .place ∙ ap (λ (w : Worth). movedTo w at (g .next)) (s .0))
+
+-- the cell to write, or why there is none
+module _ (f : List ℕ) (at form n : ℕ) (arr : List ℕ) (σ : Store) where
+  abbrev Aims : ℕ → ℕ → Type 0
+  Aims r after = TargetSays (targetOf f at form n arr σ) (targetEnd f at form) r after
+
+  pub target-scalar : form ≡ 0 → n < 65536 → Aims n at
+  unfolding targetOf targetEnd
+  target-scalar e h = rw (eq-eqb form 0 e) ((refl, omega arith), refl)
+
+  module _ (e : form ≡ 0 → ⊥) (i : ℤ) (fits : SFits w64 i) (after : ℕ) (says : WorthSays arr σ at (parse 16 f at) i after) where
+    pub target-stop : (r : ℕ) → ltZ (pos 2147483647) (again64 i) ≡ true → r ≡ 131072 + faultOf (ofZ w64 (again64 i)) → Aims r after
+    unfolding targetOf targetEnd bind
+    target-stop r t h =
+        let s = told-stop i fits _ _ _ _ after says t (faultOf (ofZ w64 (again64 i))) refl in
+        rw (ne-eqb form 0 e, s .1) (ap missOf h ∙ miss-fault (ofZ w64 (again64 i)) ∙ s .2, omega arith)
+
+    pub target-entry : (r : ℕ) → ltZ (pos 2147483647) (again64 i) ≡ false → EntrySays (entryBy (arraysOf arr) n (again (again64 i))) r → Aims r after
+    unfolding targetOf targetEnd bind
+    target-entry r t h =
+        let v = told-value i fits _ _ _ _ after says t in
+        rw (ne-eqb form 0 e, v .0) (go (entryBy (arraysOf arr) n (again (again64 i))) h (v .1))
+      where
+        go : (x : Answer ℕ) → EntrySays x r → after ≡ parse 16 f at .next → TargetSays x (parse 16 f at .next) r after
+        go (ok c) h p = (h, p)
+        go (no q) h p = h
+
+pub ruleset targets = (target-scalar, target-stop, target-entry)
+
+-- a SET: the cell first, then the expression behind it
+module _ (f : List ℕ) (at d : ℕ) (arr : List ℕ) (σ : Store) where
+  by-target : (form n o : ℕ) → form ≡ getD f (at + 5) 0 → n ≡ word f (at + 6) → o ≡ operatorAt (getD f (at + 4) 0) d
+      → setAt f at d arr σ ≡ bind (targetOf f (at + 8) form n arr σ) (λ c. setTo c o σ (worthAt arr σ (parse 16 f (targetEnd f (at + 8) form))))
+  unfolding setAt setEntry targetOf targetEnd bind
+  by-target form n o ff nn oo = rw (← ff, ← nn, ← oo) (go (eqb form 0))
+    where
+      go : (t : Bool) → cond t (setTo n o σ (worthAt arr σ (parse 16 f (at + 8)))) (setEntry f (at + 8) n o arr σ)
+          ≡ bind (cond t (ok n) (bind (answered (worthAt arr σ (parse 16 f (at + 8)))) (λ v. entryBy (arraysOf arr) n v)))
+          (λ c. setTo c o σ (worthAt arr σ (parse 16 f (cond t (at + 8) (parse 16 f (at + 8) .next)))))
+      go true = refl
+      go false = refl
+
+  -- what is known where the cell has been asked for; w is the record's place as a number
+  module _ (w o b form n c p : ℕ) (ww : w ≡ at) (oo : o ≡ operatorAt b d) (bb : b ≡ getD f (w + 4) 0) (ff : form ≡ getD f (w + 5) 0) (nn : n ≡ word f (w + 6))
+      (aims : TargetSays (targetOf f (w + 8) form n arr σ) (targetEnd f (w + 8) form) c p) where
+    set-is : setAt f at d arr σ ≡ bind (targetOf f (at + 8) form n arr σ) (λ c. setTo c o σ (worthAt arr σ (parse 16 f (targetEnd f (at + 8) form))))
+    set-is = by-target form n o (rw ww at ff) (rw ww at nn) (oo ∙ ap (λ (b : ℕ). operatorAt b d) (rw ww at bb))
+
+    aimed : TargetSays (targetOf f (at + 8) form n arr σ) (targetEnd f (at + 8) form) c p
+    aimed = rw ww at aims
+
+    pub set-miss : (r : ℕ) → 131072 ≤ c → r ≡ missOf c → Leaves (setAt f at d arr σ) σ r σ
+    unfolding bind
+    set-miss r h e = rw set-is (go (targetOf f (at + 8) form n arr σ) aimed)
+      where
+        go : (x : Answer ℕ) → TargetSays x (targetEnd f (at + 8) form) c p → Leaves (bind x (λ c. setTo c o σ (worthAt arr σ (parse 16 f (targetEnd f (at + 8) form))))) σ r σ
+        go (ok k) t = absurd (omega arith)
+        go (no q) t = (e ∙ t .0, refl)
+
+    module _ (h : c < 131072) (v : ℤ) (fits : SFits w64 v) (after : ℕ) (says : WorthSays arr σ p (parse 16 f p) v after) where
+      through : (r : ℕ) (σ′ : Store) → Leaves (setTo c o σ (worthAt arr σ (parse 16 f p))) σ r σ′ → Leaves (setAt f at d arr σ) σ r σ′
+      unfolding bind
+      through r σ′ l = rw set-is (go (targetOf f (at + 8) form n arr σ) aimed)
+        where
+          go : (x : Answer ℕ) → TargetSays x (targetEnd f (at + 8) form) c p → Leaves (bind x (λ c. setTo c o σ (worthAt arr σ (parse 16 f (targetEnd f (at + 8) form))))) σ r σ′
+          go (ok k) t = rw (← t .0 .0, ← t .1) l
+          go (no q) t = absurd (omega arith)
+
+      pub set-stop : (r : ℕ) → ltZ (pos 2147483647) (again64 v) ≡ true → r ≡ faultOf (ofZ w64 (again64 v)) → Leaves (setAt f at d arr σ) σ r σ
+      unfolding bind
+      set-stop r t e = let s = told-stop v fits _ _ _ _ after says t r e in through r σ (rw (s .1) (s .2, refl))
+
+      pub set-done : (σ′ : Store) → ltZ (pos 2147483647) (again64 v) ≡ false → σ′ ≡ worked σ c o (again (again64 v)) → Leaves (setAt f at d arr σ) σ 0 σ′
+      unfolding bind
+      set-done σ′ t e = through 0 σ′ (rw (told-value v fits _ _ _ _ after says t .0) (refl, e))
+
+pub ruleset sets = (set-miss, set-stop, set-done)

@@ -1,0 +1,14 @@
+-- `decide::look` meets its contract: the cases of `DecideCases`. Assumes nothing.
+use borrow.Author.Needs.{needs}
+use Rattle.decide.proofs.DecideCases.{smalls}
+use Rattle.decide.proofs.look.Statement.{statement}
+use Rattle.decide.proofs.look.Tie as tie
+
+pub look-spec : {M : Type 1} → statement M
+look-spec =
+    tie.close
+    (tie.spec
+    (λ c. search needs)
+    (λ c. search needs)
+    (λ c. search smalls)
+    (λ c. search smalls))

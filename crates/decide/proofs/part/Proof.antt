@@ -1,0 +1,14 @@
+-- `decide::part` meets its contract: the cases of `DecideCases`. Assumes nothing.
+use borrow.Author.Needs.{needs}
+use Rattle.decide.proofs.DecideCases.{smalls}
+use Rattle.decide.proofs.part.Statement.{statement}
+use Rattle.decide.proofs.part.Tie as tie
+
+pub part-spec : {M : Type 1} → statement M
+part-spec =
+    tie.close
+    (tie.spec
+    (λ c κs. search needs)
+    (λ c. search needs)
+    (λ c κs. search needs)
+    (λ c. search smalls))

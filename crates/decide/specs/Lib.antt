@@ -1,0 +1,4 @@
+-- The definitions of `decide`.
+pub mod Sets
+pub mod Decide
+pub mod Gates

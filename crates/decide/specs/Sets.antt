@@ -1,0 +1,65 @@
+-- A SET read from the bytes, for any bytes and any arrays. Nothing here has to be believed: machine/proofs/Sets joins it to `assigned`.
+use Prim.Native.Nat.{ℕ, zero, suc, _+_, _<_, _≤_}
+use mathlib.Core.List.{List}
+use mathlib.Core.Bool.{Bool, cond}
+use mathlib.Core.Path.{_≡_}
+use lib.ListN.{getD, set as put}
+use lib.Dec.{ltb, eqb}
+use lib.IntN.{ℤ, pos, negsuc}
+use Rattle.expr.specs.Tree.{Arrays, Worth, value, stop}
+use Rattle.expr.specs.Answers.{arraysOf, worthAt}
+use Rattle.expr.specs.Bytes.{parse}
+use Rattle.records.specs.Faults.{word}
+use Rattle.moves.specs.Stores.{Answer, ok, no, Reason, number, badIndex, bind, Store, answered, applied}
+
+abbrev pub operatorAt : ℕ → ℕ → ℕ
+operatorAt o d = cond (eqb d 0) o (cond (eqb o 0) 1 (cond (eqb o 1) 0 o))
+
+abbrev pub worked : Store → ℕ → ℕ → ℤ → Store
+worked σ c o v = put σ c (applied o (getD σ c (pos 0)) v)
+
+abbrev pub faultOf : ℕ → ℕ
+faultOf n = cond (eqb n 4294967328) 32 33
+
+abbrev pub entryBy : Arrays → ℕ → ℤ → Answer ℕ
+entryBy A a (pos i) = cond (ltb i (getD (A .lengths) a 0)) (ok (getD (A .starts) a 0 + i)) (no badIndex)
+entryBy A a (negsuc i) = no badIndex
+
+-- the number r of a cell; from 131072 on there is none, and r tells why
+abbrev pub missOf : ℕ → ℕ
+missOf r = cond (eqb r 131104) 32 33
+
+abbrev pub EntrySays : Answer ℕ → ℕ → Type 0
+EntrySays (ok c) r = (r ≡ c) × (c < 131072)
+EntrySays (no q) r = (missOf r ≡ number q) × (131072 ≤ r)
+
+-- the cell of a scalar (form 0) of that number, or of the array at the index that stands at `at`; and where the index ends
+unfoldable pub targetOf : List ℕ → ℕ → ℕ → ℕ → List ℕ → Store → Answer ℕ
+targetOf f at form n arr σ = cond (eqb form 0) (ok n) (bind (answered (worthAt arr σ (parse 16 f at))) (λ v. entryBy (arraysOf arr) n v))
+
+unfoldable pub targetEnd : List ℕ → ℕ → ℕ → ℕ
+targetEnd f at form = cond (eqb form 0) at (parse 16 f at .next)
+
+-- the same with the position afterwards
+abbrev pub TargetSays : Answer ℕ → ℕ → ℕ → ℕ → Type 0
+TargetSays (ok c) next r after = ((r ≡ c) × (c < 131072)) × (after ≡ next)
+TargetSays (no q) next r after = (missOf r ≡ number q) × (131072 ≤ r)
+
+-- the number r answered, and the store left
+abbrev pub Leaves : Answer Store → Store → ℕ → Store → Type 0
+Leaves (ok τ) σ r σ′ = (r ≡ 0) × (σ′ ≡ τ)
+Leaves (no q) σ r σ′ = (r ≡ number q) × (σ′ ≡ σ)
+
+abbrev pub setTo : ℕ → ℕ → Store → Worth → Answer Store
+setTo c o σ w = bind (answered w) (λ v. ok (worked σ c o v))
+
+unfoldable pub setEntry : List ℕ → ℕ → ℕ → ℕ → List ℕ → Store → Answer Store
+setEntry f at a o arr σ =
+    bind (bind (answered (worthAt arr σ (parse 16 f at))) (λ v. entryBy (arraysOf arr) a v))
+    (λ c. setTo c o σ (worthAt arr σ (parse 16 f (parse 16 f at .next))))
+
+unfoldable pub setAt : List ℕ → ℕ → ℕ → List ℕ → Store → Answer Store
+setAt f at d arr σ =
+    cond (eqb (getD f (at + 5) 0) 0)
+    (setTo (word f (at + 6)) (operatorAt (getD f (at + 4) 0) d) σ (worthAt arr σ (parse 16 f (at + 8))))
+    (setEntry f (at + 8) (word f (at + 6)) (operatorAt (getD f (at + 4) 0) d) arr σ)

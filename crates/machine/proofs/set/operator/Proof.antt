@@ -1,7 +1,0 @@
--- `machine::set::operator` meets its contract: the cases of `SetCases`. Assumes nothing.
-use Rattle.machine.proofs.SetCases.{operators}
-use Rattle.machine.proofs.set.operator.Statement.{statement}
-use Rattle.machine.proofs.set.operator.Tie as tie
-
-pub operator-spec : {M : Type 1} → statement M
-operator-spec = tie.close (tie.spec (λ c. search operators) (λ c. search operators) (λ c. search operators) (λ c. search operators))
