@@ -1,13 +1,13 @@
 -- A run on the copies of an accepted file and of its store, with zeros behind both, is the document's run.
-use Prim.Native.Nat.{ℕ, _+_, _-_, _^_, _≤_, _<_}
+use Prim.Native.Nat.{ℕ, _+_, _-_, _≤_}
 use mathlib.Core.Path.{_≡_, refl, sym, ap, _∙_}
-use mathlib.Core.List.{List, [], _∷_, _++_, append-nil}
+use mathlib.Core.List.{List, [], _∷_, _++_}
 use lib.ListN.{length, getD, drop, length-drop, length-replicate}
 use lib.Seq.{take-all, length-sets}
 use native.Mathlib.Omega.{arith}
 use Rattle.place.specs.Places.{Place}
 use Rattle.place.specs.Slots.{held}
-use Rattle.order.specs.Trees.{Tree, cells}
+use Rattle.order.specs.Trees.{Tree, cells, recordsOf}
 use Rattle.program.specs.Says.{Accepts}
 use Rattle.program.specs.Arrays.{arraysAt}
 use Rattle.program.proofs.ArrayTree.{starting, arrays-start, arrays-length}
@@ -18,7 +18,8 @@ use Rattle.moves.specs.Runs.{Ran, stopNumber, run}
 use Rattle.moves.proofs.Behind.{Zeros, zeros-are, run-behind}
 use Rattle.table.specs.Table.{tableOf}
 use Rattle.table.proofs.Tabled.{tabled}
-use Rattle.machine.specs.Decide.{ruleOf}
+use Rattle.decide.specs.Decide.{ruleOf}
+use Rattle.decide.specs.Gates.{Leads}
 use Rattle.machine.specs.Walk.{gone, goOf}
 use Rattle.machine.specs.Copies.{noBytes, noCells, padTo, widenTo}
 use Rattle.machine.specs.Whole.{givenBack}
@@ -37,29 +38,23 @@ arrays-long : (f : List ℕ) → length (arraysAt f) ≡ 32
 unfolding arraysAt
 arrays-long f = simp (length-sets, length-replicate)
 
-pub agrees : (f : List ℕ) (t : Tree) → Accepts f t → (zs bytes : List ℕ) → bytes ≡ f ++ zs → length bytes < 2 ^ 16 → Agrees t f bytes (arraysAt f)
-agrees f t A zs bytes begun short = record {
-  starts = λ a. arrays-start f t A a ∙ ap (λ (l : List ℕ). getD l a 0) (starting-is (t .scalars) (t .lengths));
-  lengths = λ a. ap (λ (l : List ℕ). getD l a 0) (take-all 16 (drop 16 (arraysAt f)) (omega (arith, length-drop 16 (arraysAt f), arrays-long f))) ∙ arrays-length f t A a;
-  reads = read-at A zs bytes begun short;
-}
-
--- the file itself
-pub agrees-bare : (f : List ℕ) (t : Tree) → Accepts f t → Agrees t f f (arraysAt f)
-agrees-bare f t A = agrees f t A [] f (sym (append-nil f)) (omega (arith, A .rows .short))
-
 -- ---- the copies
 zero-cells : (k : ℕ) → Zeros (noCells k)
 unfolding noCells
 zero-cells k = zeros-are k
 
-module _ {f : List ℕ} {t : Tree} (A : Accepts f t) where
-  pub agrees-padded : Agrees t f (padTo 32768 f) (arraysAt f)
-  agrees-padded = agrees f t A (noBytes (32768 - length f)) (padTo 32768 f) (pad-is 32768 f (A .rows .short)) (omega (arith, length-pad 32768 f))
+module _ {f : List ℕ} {t : Tree} (A : Accepts f t) {downs ups : List ℕ} (L : Leads (padTo 32768 f) (tableOf f) (length (recordsOf t)) downs ups) where
+  agrees : Agrees t f (padTo 32768 f) (tableOf f) downs ups (arraysAt f)
+  agrees = record {
+    starts = λ a. arrays-start f t A a ∙ ap (λ (l : List ℕ). getD l a 0) (starting-is (t .scalars) (t .lengths));
+    lengths = λ a. ap (λ (l : List ℕ). getD l a 0) (take-all 16 (drop 16 (arraysAt f)) (omega (arith, length-drop 16 (arraysAt f), arrays-long f))) ∙ arrays-length f t A a;
+    reads = read-at A (noBytes (32768 - length f)) (padTo 32768 f) (pad-is 32768 f (A .rows .short)) (omega (arith, length-pad 32768 f));
+    leads = L;
+  }
 
   -- the run on the copies, its cells given back, is the run
   pub walked-copied : (p : Place) → Fits t p → (σ : Store) → length σ ≡ cells t → (n : ℕ)
-      → givenBack σ (goOf (ruleOf (padTo 32768 f) (tableOf f) (arraysAt f)) n (held p) (calls (p .frames)) (widenTo 2048 σ) 0)
+      → givenBack σ (goOf (ruleOf (padTo 32768 f) (tableOf f) downs ups (arraysAt f)) n (held p) (calls (p .frames)) (widenTo 2048 σ) 0)
       ≡ gone (stopNumber (run t n p σ .stop)) (run t n p σ .steps) (held (run t n p σ .place)) (run t n p σ .store)
   walked-copied p fit σ sized n =
       let zs = noCells (2048 - length σ) in
@@ -68,6 +63,6 @@ module _ {f : List ℕ} {t : Tree} (A : Accepts f t) where
       let b = run-behind t zs (zero-cells (2048 - length σ)) A n p σ sized in
       let z : 0 + r .steps ≡ r .steps = omega arith in
       ap (givenBack σ)
-      (ap (λ (τ : Store). goOf (ruleOf (padTo 32768 f) (tableOf f) (arraysAt f)) n (held p) (calls (p .frames)) τ 0) (widen-is 2048 σ h)
-      ∙ (walked A (tabled f t A) agrees-padded n p fit (σ ++ zs) 0 ∙ ap (λ (x : Ran). gone (stopNumber (x .stop)) (0 + x .steps) (held (x .place)) (x .store)) (b .0)))
+      (ap (λ (τ : Store). goOf (ruleOf (padTo 32768 f) (tableOf f) downs ups (arraysAt f)) n (held p) (calls (p .frames)) τ 0) (widen-is 2048 σ h)
+      ∙ (walked A (tabled f t A) agrees n p fit (σ ++ zs) 0 ∙ ap (λ (x : Ran). gone (stopNumber (x .stop)) (0 + x .steps) (held (x .place)) (x .store)) (b .0)))
       ∙ (λ i. gone (stopNumber (r .stop)) (z i) (held (r .place)) (back-is 2048 (r .store) zs σ (b .1 ∙ sym sized) h i))

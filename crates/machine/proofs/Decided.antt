@@ -33,11 +33,10 @@ use Rattle.moves.proofs.Gaps.{tip}
 use Rattle.moves.proofs.View.{stack, view, fresh-stack, side-call, side-uncall, encl-left}
 use Rattle.moves.proofs.Accepted.{accepted-wf}
 use Rattle.table.proofs.Tabled.{Tabled, Part, is-if, is-else, is-fi, is-from, is-loop, is-until}
-use Rattle.machine.specs.declared.decide.Spot.{Spot}
-use Rattle.machine.specs.declared.decide.Move.{Move}
-use Rattle.machine.specs.Decide.{lookIn, otherOf, alongOf, truthOf, refusedOf, keptOf, pushedOf, poppedOf, changedOf, headIn, middleIn, tailIn, chosenOf, closedOf, againOf, openedOf, repeatedOf, testedOf, assignedOf, Ruled, ruled, Rules, afterSet, ruleOf}
-use Rattle.machine.specs.Sets.{Leaves, setAt}
-use Rattle.machine.proofs.DecideCases.{rule-set, rule-skip, rule-call, rule-uncall, rule-return, rule-test}
+use Rattle.decide.specs.declared.Move.{Move}
+use Rattle.decide.specs.Decide.{Seen, lookIn, otherOf, alongOf, truthOf, refusedOf, keptOf, pushedOf, poppedOf, changedOf, headIn, middleIn, tailIn, chosenOf, closedOf, againOf, openedOf, repeatedOf, testedOf, assignedOf, Ruled, ruled, Rules, afterSet, ruleOf}
+use Rattle.decide.specs.Sets.{Leaves, setAt}
+use Rattle.decide.proofs.DecideCases.{rule-set, rule-skip, rule-call, rule-uncall, rule-return, rule-test}
 use Rattle.machine.proofs.Labels.{small, inside, near, offset-is, along-is}
 use Rattle.machine.proofs.Landing.{topKind, topLabel, spotAt, again-is, Fate, keeps, pushes, pops, changes}
 use Rattle.machine.proofs.Sets.{Agrees, worth-is, set-is}
@@ -48,7 +47,7 @@ clash p q = absurd (let z : _≡_ {A = ℕ} 0 1 = cc in let y : ⊥ = omega arit
 pub fate-of : (P : Prog) (fs : List Frame) (σ : Store) (x : Ruled) (m : Move) (τ : Store) (a : Answer (Cut × Store)) → Rules x m τ → Fate P fs σ (ruled m τ) a → Fate P fs σ x a
 fate-of P fs σ x m τ a r h = let e : ruled m τ ≡ x = λ i. record { move = r .made i; store = r .left i } in subst (λ x. Fate P fs σ x a) e h
 
-module _ {f : List ℕ} {t : Tree} (A : Accepts f t) {tab : List ℕ} (T : Tabled t f tab) {bytes arr : List ℕ} (G : Agrees t f bytes arr) where
+module _ {f : List ℕ} {t : Tree} (A : Accepts f t) {tab : List ℕ} (T : Tabled t f tab) {bytes downs ups arr : List ℕ} (G : Agrees t f bytes tab downs ups arr) where
   abbrev P : Prog
   P = prog t
 
@@ -73,7 +72,7 @@ module _ {f : List ℕ} {t : Tree} (A : Accepts f t) {tab : List ℕ} (T : Table
   tail-at b h c p = near A T 4096 b (omega arith) h ∙ T .tails b c h p
 
   -- ---- a test: by what its expression holds
-  truth-fate : (fs : List Frame) (σ : Store) (S : Spot) (k : ℕ) (x : Worth) (K : Bool → Answer (Cut × Store))
+  truth-fate : (fs : List Frame) (σ : Store) (S : Seen) (k : ℕ) (x : Worth) (K : Bool → Answer (Cut × Store))
       → Fate P fs σ (ruled (testedOf S k 1 tab) σ) (K true) → Fate P fs σ (ruled (testedOf S k 0 tab) σ) (K false)
       → Fate P fs σ (ruled (testedOf S k (truthOf x) tab) σ) (bind (bind (answered x) (λ v. ok (isTrue v))) K)
   unfolding bind testedOf
@@ -83,14 +82,14 @@ module _ {f : List ℕ} {t : Tree} (A : Accepts f t) {tab : List ℕ} (T : Table
   truth-fate fs σ S k (stop byZero) K hy hn = (refl, refl)
   truth-fate fs σ S k (stop outside) K hy hn = (refl, refl)
 
-  pub test-fate : (fs : List Frame) (σ : Store) (S : Spot) (k : ℕ) (e : Expr) (K : Bool → Answer (Cut × Store)) → (S .b < 1024) × (lookIn tab (1024 + S .b) ≡ k) → 4 < k → k < 11
+  pub test-fate : (fs : List Frame) (σ : Store) (S : Seen) (k : ℕ) (e : Expr) (K : Bool → Answer (Cut × Store)) → (S .b < 1024) × (lookIn tab (1024 + S .b) ≡ k) → 4 < k → k < 11
       → parse 16 bytes (lookIn tab (S .b) + 4) .tree ≡ e
       → Fate P fs σ (ruled (testedOf S k 1 tab) σ) (K true) → Fate P fs σ (ruled (testedOf S k 0 tab) σ) (K false)
-      → Fate P fs σ (ruleOf bytes tab arr S σ) (bind (holds t σ e) K)
+      → Fate P fs σ (ruleOf bytes tab downs ups arr S σ) (bind (holds t σ e) K)
   unfolding holds evaluated
   test-fate fs σ S k e K kk lo hi tree hy hn =
-      fate-of P fs σ (ruleOf bytes tab arr S σ) (testedOf S k (truthOf (eval (layout t) σ e)) tab) σ (bind (holds t σ e) K)
-      (rule-test bytes tab arr S σ k (lookIn tab (S .b)) (sym (kk .1)) refl (testedOf S k (truthOf (eval (layout t) σ e)) tab) (kk .0) (λ e. omega arith) (λ e. omega arith) (λ e. omega arith) (λ e. omega arith) (truthOf (eval (layout t) σ e)) (omega arith) refl
+      fate-of P fs σ (ruleOf bytes tab downs ups arr S σ) (testedOf S k (truthOf (eval (layout t) σ e)) tab) σ (bind (holds t σ e) K)
+      (rule-test bytes tab downs ups arr S σ k (lookIn tab (S .b)) (sym (kk .1)) refl (testedOf S k (truthOf (eval (layout t) σ e)) tab) (kk .0) (λ e. omega arith) (λ e. omega arith) (λ e. omega arith) (λ e. omega arith) (truthOf (eval (layout t) σ e)) (omega arith) refl
       (ap truthOf (sym (ap (eval (arraysOf arr) σ) tree ∙ worth-is t arr G σ e))))
       (truth-fate fs σ S k (eval (layout t) σ e) K hy hn)
 
@@ -111,7 +110,7 @@ module _ {f : List ℕ} {t : Tree} (A : Accepts f t) {tab : List ℕ} (T : Table
   tree-until o e q = cc
 
   -- ---- closing and opening, by the frame
-  module _ (fs : List Frame) (σ : Store) (S : Spot) (K : Answer (Cut × Store)) where
+  module _ (fs : List Frame) (σ : Store) (S : Seen) (K : Answer (Cut × Store)) where
     abbrev To : Move → Answer (Cut × Store) → Type 0
     To m a = Fate P fs σ (ruled m σ) a
 

@@ -27,7 +27,7 @@ use Rattle.moves.proofs.Links.{at-is}
 use Rattle.moves.proofs.Gaps.{tip}
 use Rattle.moves.proofs.Accepted.{accepted-wf}
 use Rattle.table.proofs.Tabled.{Tabled}
-use Rattle.machine.specs.Decide.{lookIn, alongOf}
+use Rattle.decide.specs.Decide.{lookIn, alongOf}
 
 -- ---- a record of an accepted file
 pub getD-any : (rs : List Record) (x : ℕ) (a b : Record) → x < length rs → getD rs x a ≡ getD rs x b

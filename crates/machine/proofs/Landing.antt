@@ -24,9 +24,8 @@ use Rattle.moves.proofs.Rows.{prog}
 use Rattle.moves.proofs.Gaps.{tip}
 use Rattle.moves.proofs.View.{stack, view}
 use Rattle.table.proofs.Tabled.{Tabled}
-use Rattle.machine.specs.declared.decide.Spot.{Spot}
-use Rattle.machine.specs.declared.decide.Move.{Move}
-use Rattle.machine.specs.Decide.{alongOf, moving, moreOf, keptOf, pushedOf, poppedOf, changedOf, againOf, Ruled, ruled}
+use Rattle.decide.specs.declared.Move.{Move}
+use Rattle.decide.specs.Decide.{Seen, alongOf, moving, moreOf, keptOf, pushedOf, poppedOf, changedOf, againOf, Ruled, ruled}
 use Rattle.machine.specs.Walk.{putIn}
 use Rattle.machine.proofs.Labels.{along-is}
 use Rattle.machine.proofs.Room.{room}
@@ -82,7 +81,7 @@ abbrev pub topLabel : List Frame → ℕ
 topLabel [] = 0
 topLabel (f ∷ F) = frameLabel f
 
-abbrev pub spotAt : List Frame → Dir → List ℕ → ℕ → Spot
+abbrev pub spotAt : List Frame → Dir → List ℕ → ℕ → Seen
 spotAt fs d cs b = record { direction = dirNumber d; b = b; calls = length cs; count = length fs; kind = topKind fs; label = topLabel fs }
 
 and-cond : (a b : Bool) → cond a b false ≡ (a && b)
@@ -151,7 +150,7 @@ module _ {f : List ℕ} {t : Tree} (A : Accepts f t) {tab : List ℕ} (T : Table
     abbrev fs : List Frame
     fs = P .encl g ++ stack P cs
 
-    abbrev S : Spot
+    abbrev S : Seen
     S = spotAt (P .encl g ++ stack P cs) d cs b
 
     abbrev To : Move → Type 0

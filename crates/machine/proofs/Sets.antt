@@ -21,7 +21,8 @@ use Rattle.records.specs.Walk.{offsets}
 use Rattle.moves.specs.Labels.{at}
 use Rattle.moves.specs.Places.{Dir, down, up}
 use Rattle.moves.specs.Stores.{Answer, ok, no, badIndex, bind, Store, layout, answered, evaluated, applied, operator, entryAt, cellOf, assigned}
-use Rattle.machine.specs.Sets.{operatorAt, worked, entryBy, setTo, setEntry, setAt}
+use Rattle.decide.specs.Gates.{Leads}
+use Rattle.decide.specs.Sets.{operatorAt, worked, entryBy, setTo, setEntry, setAt}
 
 operator-is : (o : ℕ) (d : Dir) → operatorAt o (dirNumber d) ≡ operator o d
 operator-is o down = refl
@@ -29,13 +30,14 @@ operator-is zero up = refl
 operator-is (suc zero) up = refl
 operator-is (suc (suc o)) up = rw (ne-eqb (suc (suc o)) 0 (λ e. omega arith), ne-eqb (suc (suc o)) 1 (λ e. omega arith))
 
--- the arrays are the tree's, and the bytes read like the file f at its records
-pub record Agrees (t : Tree) (f bytes arr : List ℕ) : Type 0 where
+-- the arrays are the tree's, the bytes read like the file f at its records, and the gates are those that the bytes and the table name
+pub record Agrees (t : Tree) (f bytes tab downs ups arr : List ℕ) : Type 0 where
   pub starts : (a : ℕ) → getD (arraysOf arr .starts) a 0 ≡ getD (layout t .starts) a 0
   pub lengths : (a : ℕ) → getD (arraysOf arr .lengths) a 0 ≡ getD (t .lengths) a 0
   pub reads : (x : ℕ) → x < length (recordsOf t) → recordAs (kind (at t x)) bytes (getD (offsets f) x 0) ≡ at t x
+  pub leads : Leads bytes tab (length (recordsOf t)) downs ups
 
-module _ {f bytes : List ℕ} (t : Tree) (arr : List ℕ) (G : Agrees t f bytes arr) (σ : Store) where
+module _ {f bytes tab downs ups : List ℕ} (t : Tree) (arr : List ℕ) (G : Agrees t f bytes tab downs ups arr) (σ : Store) where
   pub worth-is : (e : Expr) → eval (arraysOf arr) σ e ≡ eval (layout t) σ e
   worth-is e = eval-agree (arraysOf arr) (layout t) σ (G .starts) (G .lengths) e
 

@@ -32,11 +32,12 @@ use Rattle.moves.proofs.View.{stack, view, seen, side-call, side-uncall, calls-
 use Rattle.moves.proofs.Sees.{sees}
 use Rattle.moves.proofs.Match.{Placed, placed-fits, fits-placed}
 use Rattle.table.proofs.Tabled.{Tabled}
-use Rattle.machine.specs.declared.decide.Spot.{Spot}
-use Rattle.machine.specs.declared.decide.Move.{Move}
-use Rattle.machine.specs.Decide.{lookIn, otherOf, enteredOf, returnedOf, Ruled, ruled, Rules, ruleOf}
+use Rattle.decide.specs.declared.Move.{Move}
+use Rattle.decide.specs.Decide.{Seen, lookIn, otherOf, ledOf, enteredOf, returnedOf, Ruled, ruled, Rules, ruleOf}
 use Rattle.machine.specs.Walk.{spotOf, afterOf, Gone, gone, goOf}
-use Rattle.machine.proofs.DecideCases.{rule-call, rule-uncall, rule-return}
+use Rattle.decide.specs.Gates.{procAt}
+use Rattle.decide.proofs.DecideCases.{rule-call, rule-uncall, rule-return}
+use Rattle.decide.proofs.GateCases.{led-is}
 use Rattle.machine.proofs.Room.{room}
 use Rattle.machine.proofs.Labels.{small, inside}
 use Rattle.machine.proofs.Landing.{topKind, topLabel, spotAt, Fate}
@@ -48,7 +49,7 @@ use Rattle.machine.proofs.Calls.{other-is, call-there, uncall-there, en
 nowhere : Place
 nowhere = record { a = 0; b = 0; d = down; frames = [] }
 
-module _ {f : List ℕ} {t : Tree} (A : Accepts f t) {tab : List ℕ} (T : Tabled t f tab) {bytes arr : List ℕ} (G : Agrees t f bytes arr) where
+module _ {f : List ℕ} {t : Tree} (A : Accepts f t) {tab : List ℕ} (T : Tabled t f tab) {bytes downs ups arr : List ℕ} (G : Agrees t f bytes tab downs ups arr) where
   abbrev P : Prog
   P = prog t
 
@@ -56,7 +57,7 @@ module _ {f : List ℕ} {t : Tree} (A : Accepts f t) {tab : List ℕ} (T : Table
   frames g cs = P .encl g ++ stack P cs
 
   abbrev Does : (g : ℕ) (d : Dir) (cs : List ℕ) (b : ℕ) → Store → Answer (Cut × Store) → Type 0
-  Does g d cs b σ a = Fate P (frames g cs) σ (ruleOf bytes tab arr (spotAt (frames g cs) d cs b) σ) a
+  Does g d cs b σ a = Fate P (frames g cs) σ (ruleOf bytes tab downs ups arr (spotAt (frames g cs) d cs b) σ) a
 
   with-b : (g : ℕ) (d : Dir) (cs : List ℕ) (σ : Store) (b : ℕ) (ρ : Rec) (a : Answer (Cut × Store)) → P .at (met g d) ≡ ρ → side ρ (met g d) d ≡ b
       → Does g d cs b σ a → Does g d cs (tip P g d) σ a
@@ -72,7 +73,7 @@ module _ {f : List ℕ} {t : Tree} (A : Accepts f t) {tab : List ℕ} (T : Table
   uncall-number o q e = cc
 
   module _ (g : ℕ) (d : Dir) (cs : List ℕ) (σ : Store) (F : Sits P (record { g = g; d = d; cs = cs })) where
-    abbrev S : Spot
+    abbrev S : Seen
     S = spotAt (frames g cs) d cs (met g d)
 
     here : met g d < length (recordsOf t)
@@ -84,27 +85,31 @@ module _ {f : List ℕ} {t : Tree} (A : Accepts f t) {tab : List ℕ} (T : Table
     -- a return
     returning : (k : ℕ) → lookIn tab (1024 + met g d) ≡ k → k ≤ 3 → P .encl g ≡ [] → Does g d cs (met g d) σ (through t P return′ (met g d) d cs σ)
     returning k e h en =
-        fate-of P (frames g cs) σ (ruleOf bytes tab arr S σ) (returnedOf S tab) σ (through t P return′ (met g d) d cs σ)
-        (rule-return bytes tab arr S σ k (lookIn tab (met g d)) (sym e) refl (returnedOf S tab) low (λ z. omega arith) (λ z. omega arith) (λ z. omega arith) (λ z. omega arith) h refl)
+        fate-of P (frames g cs) σ (ruleOf bytes tab downs ups arr S σ) (returnedOf S tab) σ (through t P return′ (met g d) d cs σ)
+        (rule-return bytes tab downs ups arr S σ k (lookIn tab (met g d)) (sym e) refl (returnedOf S tab) low (λ z. omega arith) (λ z. omega arith) (λ z. omega arith) (λ z. omega arith) h refl)
         (return-fate A T G g d (met g d) σ en (F .q) cs (F .good) (F .few))
+
+    -- the gates lead where the table does
+    led : (q : ℕ) (e : Dir) → q ≡ procAt bytes tab (met g d) → enteredOf S q (dirNumber e) tab ≡ ledOf S (dirNumber e) downs ups
+    led q e h = ap (λ (x : ℕ). enteredOf S x (dirNumber e) tab) h ∙ sym (led-is bytes tab downs ups (length (recordsOf t)) (G .leads) S low here (dirNumber e))
 
     -- a call
     calling : (q : ℕ) → P .at (met g d) ≡ callL q → Local t P (callL q) (met g d) → Does g d cs (met g d) σ (through t P (enter′ q d) (met g d) d cs σ)
     unfolding through kind
     calling q e (k, o) =
         let n = o .near (F .q) (lo-met t P g d cs F) (hi-met t P g d cs F) in
-        fate-of P (frames g cs) σ (ruleOf bytes tab arr S σ) (enteredOf S q (dirNumber d) tab) σ (through t P (enter′ q d) (met g d) d cs σ)
-        (rule-call bytes tab arr S σ 11 (lookIn tab (met g d)) (sym (kind-at A T G (met g d) here (callL q) e)) refl (enteredOf S q (dirNumber d) tab) low (λ z. omega arith) (λ z. omega arith) q refl refl
-        (call-number (lookIn tab (met g d)) q (record-is A T G (met g d) here (callL q) e)))
+        fate-of P (frames g cs) σ (ruleOf bytes tab downs ups arr S σ) (enteredOf S q (dirNumber d) tab) σ (through t P (enter′ q d) (met g d) d cs σ)
+        (rule-call bytes tab downs ups arr S σ 11 (lookIn tab (met g d)) (sym (kind-at A T G (met g d) here (callL q) e)) refl (enteredOf S q (dirNumber d) tab) low (λ z. omega arith) (λ z. omega arith) refl
+        (led q d (call-number (lookIn tab (met g d)) q (record-is A T G (met g d) here (callL q) e))))
         (enter-fate A T G g d cs σ F q d k o (call-there A T G (met g d) q here e) (λ h. fit-gate t P q k (met g d ∷ cs) (by-call e (n .0) (n .1) (F .good)) h d))
 
     uncalling : (q : ℕ) → P .at (met g d) ≡ uncallL q → Local t P (uncallL q) (met g d) → Does g d cs (met g d) σ (through t P (enter′ q (opp d)) (met g d) d cs σ)
     unfolding through kind
     uncalling q e (k, o) =
         let n = o .near (F .q) (lo-met t P g d cs F) (hi-met t P g d cs F) in
-        fate-of P (frames g cs) σ (ruleOf bytes tab arr S σ) (enteredOf S q (dirNumber (opp d)) tab) σ (through t P (enter′ q (opp d)) (met g d) d cs σ)
-        (rule-uncall bytes tab arr S σ 12 (lookIn tab (met g d)) (sym (kind-at A T G (met g d) here (uncallL q) e)) refl (enteredOf S q (dirNumber (opp d)) tab) low (λ z. omega arith) (λ z. omega arith) (λ z. omega arith) q (dirNumber (opp d)) refl refl (sym (other-is d))
-        (uncall-number (lookIn tab (met g d)) q (record-is A T G (met g d) here (uncallL q) e)))
+        fate-of P (frames g cs) σ (ruleOf bytes tab downs ups arr S σ) (enteredOf S q (dirNumber (opp d)) tab) σ (through t P (enter′ q (opp d)) (met g d) d cs σ)
+        (rule-uncall bytes tab downs ups arr S σ 12 (lookIn tab (met g d)) (sym (kind-at A T G (met g d) here (uncallL q) e)) refl (enteredOf S q (dirNumber (opp d)) tab) low (λ z. omega arith) (λ z. omega arith) (λ z. omega arith) (dirNumber (opp d)) refl
+        (led q (opp d) (uncall-number (lookIn tab (met g d)) q (record-is A T G (met g d) here (uncallL q) e))) (sym (other-is d)))
         (enter-fate A T G g d cs σ F q (opp d) k o (uncall-there A T G (met g d) q here e) (λ h. fit-gate t P q k (met g d ∷ cs) (by-uncall e (n .0) (n .1) (F .good)) h (opp d)))
 
   fate : (g : ℕ) (d : Dir) (cs : List ℕ) (σ : Store) (ρ : Rec) → P .at (met g d) ≡ ρ → Local t P ρ (met g d) → (F : Sits P (record { g = g; d = d; cs = cs }))
@@ -159,12 +164,12 @@ module _ {f : List ℕ} {t : Tree} (A : Accepts f t) {tab : List ℕ} (T : Table
   top-label [] h = ap (λ (x : Top). x .label) (top-held-none nowhere)
   top-label (i ∷ F) h = ap (λ (x : Top). x .label) (top-held nowhere i F (omega arith))
 
-  pub decided : (p : Place) → Fits t p → (σ : Store) → Follows (held p) σ (ruleOf bytes tab arr (spotOf (held p) (calls (p .frames))) σ) (step t p σ)
+  pub decided : (p : Place) → Fits t p → (σ : Store) → Follows (held p) σ (ruleOf bytes tab downs ups arr (spotOf (held p) (calls (p .frames))) σ) (step t p σ)
   decided p fit σ =
       let k = fits-placed t (w A T G) p fit in
-      subst (λ p. Follows (held p) σ (ruleOf bytes tab arr (spotOf (held p) (calls (p .frames))) σ) (step t p σ)) (sym (k .is)) (at-cut (k .cut) (k .sits))
+      subst (λ p. Follows (held p) σ (ruleOf bytes tab downs ups arr (spotOf (held p) (calls (p .frames))) σ) (step t p σ)) (sym (k .is)) (at-cut (k .cut) (k .sits))
     where
-      at-cut : (s : Cut) → Sits P s → Follows (held (view P s)) σ (ruleOf bytes tab arr (spotOf (held (view P s)) (calls (view P s .frames))) σ) (step t (view P s) σ)
+      at-cut : (s : Cut) → Sits P s → Follows (held (view P s)) σ (ruleOf bytes tab downs ups arr (spotOf (held (view P s)) (calls (view P s .frames))) σ) (step t (view P s) σ)
       at-cut s F =
           let r = room A s F in
           rw (sees t (w A T G) s F σ, calls-stack t (w A T G) (s .g) (s .cs), top-kind (view P s .frames) r, top-label (view P s .frames) r)
@@ -182,26 +187,26 @@ module _ {f : List ℕ} {t : Tree} (A : Accepts f t) {tab : List ℕ} (T : Table
   Ends x k r = x ≡ gone (stopNumber (r .stop)) (k + r .steps) (held (r .place)) (r .store)
 
   pub walked : (n : ℕ) (p : Place) → Fits t p → (σ : Store) (k : ℕ)
-      → goOf (ruleOf bytes tab arr) n (held p) (calls (p .frames)) σ k ≡ gone (stopNumber (run t n p σ .stop)) (k + run t n p σ .steps) (held (run t n p σ .place)) (run t n p σ .store)
+      → goOf (ruleOf bytes tab downs ups arr) n (held p) (calls (p .frames)) σ k ≡ gone (stopNumber (run t n p σ .stop)) (k + run t n p σ .steps) (held (run t n p σ .place)) (run t n p σ .store)
   unfolding goOf runBy
   walked zero p fit σ k = let z : k ≡ k + 0 = omega arith in ap (λ j. gone 0 j (held p) σ) z
   walked (suc n) p fit σ k = go (step t p σ) refl (decided p fit σ) (walked n)
     where
-      go : (a : Answer (Place × Store)) → step t p σ ≡ a → Follows (held p) σ (ruleOf bytes tab arr (spotOf (held p) (calls (p .frames))) σ) a
-          → ((p : Place) → Fits t p → (σ : Store) (k : ℕ) → Ends (goOf (ruleOf bytes tab arr) n (held p) (calls (p .frames)) σ k) k (run t n p σ))
-          → Ends (cond (eqb (ruleOf bytes tab arr (spotOf (held p) (calls (p .frames))) σ .move .reason) 0)
-          (goOf (ruleOf bytes tab arr) n (afterOf (held p) (ruleOf bytes tab arr (spotOf (held p) (calls (p .frames))) σ .move)) (ruleOf bytes tab arr (spotOf (held p) (calls (p .frames))) σ .move .calls) (ruleOf bytes tab arr (spotOf (held p) (calls (p .frames))) σ .store) (k + 1))
-          (gone (ruleOf bytes tab arr (spotOf (held p) (calls (p .frames))) σ .move .reason) k (held p) (ruleOf bytes tab arr (spotOf (held p) (calls (p .frames))) σ .store)))
+      go : (a : Answer (Place × Store)) → step t p σ ≡ a → Follows (held p) σ (ruleOf bytes tab downs ups arr (spotOf (held p) (calls (p .frames))) σ) a
+          → ((p : Place) → Fits t p → (σ : Store) (k : ℕ) → Ends (goOf (ruleOf bytes tab downs ups arr) n (held p) (calls (p .frames)) σ k) k (run t n p σ))
+          → Ends (cond (eqb (ruleOf bytes tab downs ups arr (spotOf (held p) (calls (p .frames))) σ .move .reason) 0)
+          (goOf (ruleOf bytes tab downs ups arr) n (afterOf (held p) (ruleOf bytes tab downs ups arr (spotOf (held p) (calls (p .frames))) σ .move)) (ruleOf bytes tab downs ups arr (spotOf (held p) (calls (p .frames))) σ .move .calls) (ruleOf bytes tab downs ups arr (spotOf (held p) (calls (p .frames))) σ .store) (k + 1))
+          (gone (ruleOf bytes tab downs ups arr (spotOf (held p) (calls (p .frames))) σ .move .reason) k (held p) (ruleOf bytes tab downs ups arr (spotOf (held p) (calls (p .frames))) σ .store)))
           k (onward a (λ p σ. runBy (step t) n p σ) p σ)
       go (no r) e h ih =
-          let x = ruleOf bytes tab arr (spotOf (held p) (calls (p .frames))) σ in
+          let x = ruleOf bytes tab downs ups arr (spotOf (held p) (calls (p .frames))) σ in
           let z : k ≡ k + 0 = omega arith in
-          ap (λ (b : Bool). cond b (goOf (ruleOf bytes tab arr) n (afterOf (held p) (x .move)) (x .move .calls) (x .store) (k + 1)) (gone (x .move .reason) k (held p) (x .store))) (ne-eqb (x .move .reason) 0 (λ y. number-some r (sym (h .0) ∙ y)))
+          ap (λ (b : Bool). cond b (goOf (ruleOf bytes tab downs ups arr) n (afterOf (held p) (x .move)) (x .move .calls) (x .store) (k + 1)) (gone (x .move .reason) k (held p) (x .store))) (ne-eqb (x .move .reason) 0 (λ y. number-some r (sym (h .0) ∙ y)))
           ∙ (λ i. gone (h .0 i) (z i) (held p) (h .1 i))
       go (ok s) e h ih =
-          let x = ruleOf bytes tab arr (spotOf (held p) (calls (p .frames))) σ in
+          let x = ruleOf bytes tab downs ups arr (spotOf (held p) (calls (p .frames))) σ in
           let r = run t n (s .0) (s .1) in
           let z : k + 1 + r .steps ≡ k + suc (r .steps) = omega arith in
-          ap (λ (b : Bool). cond b (goOf (ruleOf bytes tab arr) n (afterOf (held p) (x .move)) (x .move .calls) (x .store) (k + 1)) (gone (x .move .reason) k (held p) (x .store))) (eq-eqb (x .move .reason) 0 (h .0))
-          ∙ ((λ i. goOf (ruleOf bytes tab arr) n (h .1 i) (h .2 i) (h .3 i) (k + 1))
+          ap (λ (b : Bool). cond b (goOf (ruleOf bytes tab downs ups arr) n (afterOf (held p) (x .move)) (x .move .calls) (x .store) (k + 1)) (gone (x .move .reason) k (held p) (x .store))) (eq-eqb (x .move .reason) 0 (h .0))
+          ∙ ((λ i. goOf (ruleOf bytes tab downs ups arr) n (h .1 i) (h .2 i) (h .3 i) (k + 1))
           ∙ (ih (s .0) (h .4) (s .1) (k + 1) ∙ ap (λ j. gone (stopNumber (r .stop)) j (held (r .place)) (r .store)) z))

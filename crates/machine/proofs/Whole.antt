@@ -35,15 +35,17 @@ use Rattle.fits.proofs.FitsLaw.{fits-law}
 use Rattle.machine.specs.declared.Told.{Told}
 use Rattle.machine.specs.declared.Told.the-variants.{Refused}
 use Rattle.machine.specs.declared.Ran.{Ran}
-use Rattle.machine.specs.Decide.{ruleOf}
+use Rattle.decide.specs.Decide.{ruleOf}
 use Rattle.machine.specs.Walk.{callsIn, callsOf, Gone, gone, goOf}
 use Rattle.machine.specs.Copies.{padTo, widenTo}
-use Rattle.machine.specs.Whole.{staying, Result, result, Runs, wentTo, givenBack, checkedRun}
+use Rattle.machine.specs.declared.walk.Went.{Went}
+use Rattle.machine.specs.Whole.{toldBy, staying, givenBack, Copied, CheckedRun}
+use Rattle.machine.specs.Whole as whole
 use Rattle.machine.specs.Answers.{Gives, numbered, Before, program, size, place, Ready, StepSays, refused, stopped, arrived, RunSays, ran}
 use Rattle.machine.proofs.Room.{room}
 use Rattle.machine.proofs.Steps.{walked}
 use Rattle.machine.proofs.Giving.{gives-refused, by-gives}
-use Rattle.machine.proofs.Copied.{agrees-bare, walked-copied}
+use Rattle.machine.proofs.Copied.{walked-copied}
 
 -- ---- the calls among the frames
 calls-are : (fs : List Frame) (r : List ℕ) → callsIn (reverse (map frameKind fs) ++ r) (length fs) ≡ calls fs
@@ -65,20 +67,7 @@ module _ (f : List ℕ) (q : Held) (σ : Store) (n : ℕ) where
   abbrev Says-run : Ran → Store → Type 0
   Says-run r τ = RunSays run f q σ n (r .told) (r .steps) (r .place) τ
 
-  says-result : (x : Result) (r : Ran) (τ : Store) → Runs x r τ → Says-run (x .ran) (x .store) → Says-run r τ
-  says-result x r τ h s = subst (λ (y : Result). Says-run (y .ran) (y .store)) (λ i. record { ran = sym (h .ran) i; store = sym (h .left) i }) s
-
   module _ (t : Tree) (A : Accepts f t) where
-    -- what a run to the document's end says
-    ran-says : length σ ≡ cells t → (p : Place) → q ≡ held p → Fits t p → (g : Gone)
-        → g ≡ gone (stopNumber (run t n p σ .stop)) (run t n p σ .steps) (held (run t n p σ .place)) (run t n p σ .store) → Says-run (wentTo g .ran) (wentTo g .store)
-    ran-says e p h fit g k =
-        ran (record { accepts = A; sized = e; holds = h; fits = fit })
-        (by-gives (ap (λ (x : Gone). x .went .reason) k))
-        (ap (λ (x : Gone). x .went .steps) k)
-        (ap (λ (x : Gone). x .went .place) k)
-        (ap (λ (x : Gone). x .store) k)
-
     -- the calls are counted in the struct
     calls-of : (p : Place) → q ≡ held p → Fits t p → callsOf (q .kinds) (q .count) ≡ calls (p .frames)
     calls-of p h fit =
@@ -86,36 +75,36 @@ module _ (f : List ℕ) (q : Held) (σ : Store) (n : ℕ) where
         let room-p : length (p .frames) ≤ 1104 = subst (λ p. length (p .frames) ≤ 1104) (sym (k .is)) (room A (k .cut) (k .sits)) in
         (λ i. callsOf (h i .kinds) (h i .count)) ∙ calls-held p room-p
 
-    fitting : length σ ≡ cells t → (p : Place) → q ≡ held p → Fits t p → let x = wentTo (goOf (ruleOf f (tableOf f) (arraysAt f)) n q (callsOf (q .kinds) (q .count)) σ 0) in Says-run (x .ran) (x .store)
-    fitting e p h fit =
-        let r = run t n p σ in
-        let z : 0 + r .steps ≡ r .steps = omega arith in
-        ran-says e p h fit _
-        ((λ i. goOf (ruleOf f (tableOf f) (arraysAt f)) n (h i) (calls-of p h fit i) σ 0)
-        ∙ (walked A (tabled f t A) (agrees-bare f t A) n p fit σ 0 ∙ ap (λ m. gone (stopNumber (r .stop)) m (held (r .place)) (r .store)) z))
+    -- what a run on the copies says
+    fitting : length σ ≡ cells t → (p : Place) → q ≡ held p → Fits t p → (w : Went) (τ : Store) → Copied f (tableOf f) (length (recordsOf t)) q σ n w τ
+        → RunSays run f q σ n (toldBy (w .reason)) (w .steps) (w .place) τ
+    fitting e p h fit w τ c =
+        let bytes = padTo 32768 f in
+        let g = (λ i. givenBack σ (goOf (ruleOf bytes (tableOf f) (c .downs) (c .ups) (arraysAt f)) n (h i) (calls-of p h fit i) (widenTo 2048 σ) 0)) ∙ walked-copied A (c .leads) p fit σ e n in
+        let k : w ≡ gone (stopNumber (run t n p σ .stop)) (run t n p σ .steps) (held (run t n p σ .place)) (run t n p σ .store) .went = c .goes .went ∙ ap (λ (x : Gone). x .went) g in
+        ran (record { accepts = A; sized = e; holds = h; fits = fit })
+        (by-gives (ap (λ (x : Went). x .reason) k))
+        (ap (λ (x : Went). x .steps) k)
+        (ap (λ (x : Went). x .place) k)
+        (c .goes .left ∙ ap (λ (x : Gone). x .store) g)
 
-    -- the same on the copies, the cells given back
-    pub fitting-copied : length σ ≡ cells t → (p : Place) → q ≡ held p → Fits t p
-        → let x = wentTo (givenBack σ (goOf (ruleOf (padTo 32768 f) (tableOf f) (arraysAt f)) n q (callsOf (q .kinds) (q .count)) (widenTo 2048 σ) 0)) in Says-run (x .ran) (x .store)
-    fitting-copied e p h fit =
-        ran-says e p h fit _
-        ((λ i. givenBack σ (goOf (ruleOf (padTo 32768 f) (tableOf f) (arraysAt f)) n (h i) (calls-of p h fit i) (widenTo 2048 σ) 0)) ∙ walked-copied A p fit σ e n)
-
-    checked-is : (records c : ℕ) → records ≡ length (recordsOf t) → c ≡ cells t → let x = checkedRun f records c q σ n in Says-run (x .ran) (x .store)
-    unfolding checkedRun
-    checked-is records c er ec = go (eqb (length σ) c) refl (fitsIn f (tableOf f) records q) (fits-law f t (tableOf f) records q A (tabled f t A) er)
+    checked-is : (records c : ℕ) → records ≡ length (recordsOf t) → c ≡ cells t → (r : Ran) (τ : Store) → CheckedRun f records c q σ n r τ → Says-run r τ
+    checked-is records c er ec r τ (whole.size h e k) =
+        refused (size A (λ x. h (x ∙ sym ec))) (gives-refused (omega arith) (ap (λ (r : Ran). r .told) e)) (ap (λ (r : Ran). r .steps) e) (ap (λ (r : Ran). r .place) e) k
+    checked-is records c er ec r τ (whole.place h b e k) =
+        refused (place A (h ∙ ec) (λ p x y. unfit p x y)) (gives-refused (omega arith) (ap (λ (r : Ran). r .told) e)) (ap (λ (r : Ran). r .steps) e) (ap (λ (r : Ran). r .place) e) k
       where
-        go : (b : Bool) → eqb (length σ) c ≡ b → (d : Bool) → Decides d ((p : Place) × ((q ≡ held p) × Fits t p))
-            → let x = cond b (cond d (wentTo (goOf (ruleOf f (tableOf f) (arraysAt f)) n q (callsOf (q .kinds) (q .count)) σ 0)) (result (Refused 21 0) 0 q σ)) (result (Refused 20 0) 0 q σ) in Says-run (x .ran) (x .store)
-        go true e true D = fitting (eqb-true _ _ e ∙ ec) (D .0) (D .1 .0) (D .1 .1)
-        go true e false D = refused (place A (eqb-true _ _ e ∙ ec) (λ p h k. D (p, (h, k)))) (numbered {n = 21} (omega arith)) refl refl refl
-        go false e d D = refused (size A (λ h. eqb-false _ _ e (h ∙ sym ec))) (numbered {n = 20} (omega arith)) refl refl refl
+        unfit : (p : Place) → q ≡ held p → Fits t p → ⊥
+        unfit p x y = (rw b at (fits-law f t (tableOf f) records q A (tabled f t A) er)) (p, (x, y))
+    checked-is records c er ec r τ (whole.went {w} h b g e) =
+        let D = rw b at (fits-law f t (tableOf f) records q A (tabled f t A) er) in
+        subst (λ (r : Ran). Says-run r τ) (sym e) (fitting (h ∙ ec) (D .0) (D .1 .0) (D .1 .1) w τ (subst (λ (m : ℕ). Copied f (tableOf f) m q σ n w τ) er g))
 
   -- an accepted file, as the check answers it
-  pub checked-says : (a : Checked) → Says f (given a) → (records p c : ℕ) → a ≡ Accepted records p c → (r : Ran) (τ : Store) → Runs (checkedRun f records c q σ n) r τ → Says-run r τ
+  pub checked-says : (a : Checked) → Says f (given a) → (records p c : ℕ) → a ≡ Accepted records p c → (r : Ran) (τ : Store) → CheckedRun f records c q σ n r τ → Says-run r τ
   checked-says a s records p c e r τ h =
       let T = accepted-of f a records p c s e in
-      says-result _ r τ h (checked-is (T .tree) (T .accepts) records c (T .records-are) (T .cells-are′))
+      checked-is (T .tree) (T .accepts) records c (T .records-are) (T .cells-are′) r τ h
 
   pub refused-says : (a : Checked) → Says f (given a) → (m k : ℕ) → a ≡ RefusedFile m k → (r : Ran) → r ≡ staying m k q → Says-run r σ
   refused-says a s m k e r h =

@@ -1,5 +1,5 @@
 -- The answers of the functions of src/lib.rt, case by case. Assumes nothing.
-use mathlib.Core.Path.{_≡_, refl, sym, ap, _∙_}
+use mathlib.Core.Path.{_≡_, refl, sym, ap, _∙_, subst}
 use mathlib.Core.Bool.{Bool, true, false, not, cond}
 use mathlib.Core.List.{List}
 use Prim.Native.Nat.{ℕ}
@@ -17,10 +17,12 @@ use Rattle.machine.specs.declared.Told.{Told}
 use Rattle.machine.specs.declared.Told.the-variants.{Done, Refused}
 use Rattle.machine.specs.declared.Ran.{Ran}
 use Rattle.machine.specs.declared.walk.Went.{Went}
-use Rattle.machine.specs.Decide.{gateOf, alongOf, ruleOf}
-use Rattle.machine.specs.Walk.{callsOf, goOf, Goes}
+use Rattle.decide.specs.Decide.{gateOf, alongOf, ruleOf}
+use Rattle.decide.specs.Gates.{Gated}
+use Rattle.machine.specs.Walk.{callsOf, Gone, goOf, Goes}
+use Rattle.machine.specs.Copies.{padTo, widenTo, backTo}
 use Rattle.machine.specs.declared.Started.{Started}
-use Rattle.machine.specs.Whole.{toldBy, staying, Runs, checkedRun, numberOf, startOf}
+use Rattle.machine.specs.Whole.{toldBy, staying, Copied, CheckedRun, size, place, went, numberOf, startOf}
 
 pub answer-done : (n : ℕ) → n ≡ 0 → Done ≡ toldBy n
 answer-done n e = rw (eq-eqb n 0 e)
@@ -36,23 +38,33 @@ not-false : (b : Bool) → not b ≡ false → b ≡ true
 not-false true e = refl
 not-false false e = absurd (let z : _≡_ {A = ℕ} 0 1 = cc in let y : ⊥ = omega arith in y)
 
+-- ---- `went`: the copies, the gates and the loop
+pub copied-goes : (f tab : List ℕ) (records : ℕ) (q : Held) (σ : Store) (n : ℕ) (bytes arr downs ups : List ℕ) (k : ℕ) (cells left : Store) (w : Went) (τ : Store)
+    → bytes ≡ padTo 32768 f → arr ≡ arraysAt f → Gated bytes tab records 0 downs → Gated bytes tab records 1 ups → k ≡ callsOf (q .kinds) (q .count) → cells ≡ widenTo 2048 σ
+    → Goes (goOf (ruleOf bytes tab downs ups arr) n q k cells 0) w left → τ ≡ backTo 2048 left σ → Copied f tab records q σ n w τ
+copied-goes f tab records q σ n bytes arr downs ups k cells left w τ eb ea gd gu ek ec g et = record {
+  downs = downs;
+  ups = ups;
+  leads = record { down = subst (λ (l : List ℕ). Gated l tab records 0 downs) eb gd; up = subst (λ (l : List ℕ). Gated l tab records 1 ups) eb gu };
+  goes = let h = subst (λ (x : Gone). Goes x w left) (λ i. goOf (ruleOf (eb i) tab downs ups (ea i)) n q (ek i) (ec i) 0) g in record { went = h .went; left = et ∙ ap (λ (l : Store). backTo 2048 l σ) (h .left) };
+}
+
+-- ---- `checked`
 module _ (f : List ℕ) (records c : ℕ) (q : Held) (σ : Store) (n : ℕ) where
-  pub checked-size : (r : Ran) → (length σ ≡ c → ⊥) → r ≡ staying 20 0 q → Runs (checkedRun f records c q σ n) r σ
-  unfolding checkedRun
-  checked-size r h e = rw (ne-eqb (length σ) c h) (record { ran = e; left = refl })
+  pub checked-size : (r : Ran) → (length σ ≡ c → ⊥) → r ≡ staying 20 0 q → CheckedRun f records c q σ n r σ
+  checked-size r h e = size h e refl
 
   module _ (h : length σ ≡ c) (tab : List ℕ) (et : tab ≡ tableOf f) (b : Bool) (eb : b ≡ fitsIn f tab records q) where
-    pub checked-place : (r : Ran) → not b ≡ true → r ≡ staying 21 0 q → Runs (checkedRun f records c q σ n) r σ
-    unfolding checkedRun
-    checked-place r k e = rw (eq-eqb (length σ) c h, ← et, ← eb, not-true b k) (record { ran = e; left = refl })
+    decided : {x : Bool} → b ≡ x → fitsIn f (tableOf f) records q ≡ x
+    decided k = ap (λ (l : List ℕ). fitsIn f l records q) (sym et) ∙ (sym eb ∙ k)
 
-    pub checked-went : not b ≡ false → (arr : List ℕ) → arr ≡ arraysAt f → (k : ℕ) → k ≡ callsOf (q .kinds) (q .count) → (w : Went) (τ : Store)
-        → Goes (goOf (ruleOf f tab arr) n q k σ 0) w τ → (t : Told) → t ≡ toldBy (w .reason)
-        → Runs (checkedRun f records c q σ n) (record { told = t; steps = w .steps; place = w .place }) τ
-    unfolding checkedRun
-    checked-went hn arr ea k ek w τ g t e =
-        rw (eq-eqb (length σ) c h, ← et, ← eb, not-false b hn, ← ea, ← ek)
-        (record { ran = λ i. record { told = (e ∙ ap (λ (w : Went). toldBy (w .reason)) (g .went)) i; steps = g .went i .steps; place = g .went i .place }; left = g .left })
+    pub checked-place : (r : Ran) → not b ≡ true → r ≡ staying 21 0 q → CheckedRun f records c q σ n r σ
+    checked-place r k e = place h (decided (not-true b k)) e refl
+
+    pub checked-went : not b ≡ false → (w : Went) (τ : Store) → Copied f tab records q σ n w τ → (t : Told) → t ≡ toldBy (w .reason)
+        → CheckedRun f records c q σ n (record { told = t; steps = w .steps; place = w .place }) τ
+    checked-went k w τ g t e =
+        went h (decided (not-false b k)) (subst (λ (l : List ℕ). Copied f l records q σ n w τ) et g) (λ i. record { told = e i; steps = w .steps; place = w .place })
 
 pub begun-is : (f : List ℕ) (up : Bool) (tab : List ℕ) (n a b : ℕ) (l m : Held) → tab ≡ tableOf f → n ≡ numberOf up → a ≡ gateOf tab 0 n → b ≡ alongOf tab n a → l ≡ blankOf
     → m ≡ movedOf l n a b → _≡_ {A = Started} (record { told = Done; place = m }) (startOf f up)

@@ -2,7 +2,7 @@
 use Prim.Native.Nat.{ℕ}
 use mathlib.Core.List.{List}
 use mathlib.Core.Path.{_≡_}
-use mathlib.Core.Bool.{Bool, cond}
+use mathlib.Core.Bool.{Bool, true, false, cond}
 use lib.ListN.{length}
 use lib.Dec.{eqb}
 use Rattle.place.specs.declared.Place.{Place as Held}
@@ -15,9 +15,11 @@ use Rattle.machine.specs.declared.Told.{Told}
 use Rattle.machine.specs.declared.Told.the-variants.{Done, Refused}
 use Rattle.machine.specs.declared.Ran.{Ran}
 use Rattle.machine.specs.declared.Started.{Started}
-use Rattle.machine.specs.Decide.{gateOf, alongOf, ruleOf}
-use Rattle.machine.specs.Walk.{callsOf, Gone, goOf}
-use Rattle.machine.specs.Copies.{backTo}
+use Rattle.decide.specs.Decide.{gateOf, alongOf, ruleOf}
+use Rattle.decide.specs.Gates.{Leads}
+use Rattle.machine.specs.declared.walk.Went.{Went}
+use Rattle.machine.specs.Walk.{callsOf, Gone, goOf, Goes}
+use Rattle.machine.specs.Copies.{padTo, widenTo, backTo}
 
 abbrev pub toldBy : ℕ → Told
 toldBy n = cond (eqb n 0) Done (Refused n 0)
@@ -25,32 +27,23 @@ toldBy n = cond (eqb n 0) Done (Refused n 0)
 abbrev pub staying : ℕ → ℕ → Held → Ran
 staying n k q = record { told = Refused n k; steps = 0; place = q }
 
--- what is answered, and the store left
-pub record Result : Type 0 where
-  pub ran : Ran
-  pub store : Store
-
-abbrev pub result : Told → ℕ → Held → Store → Result
-result t n q σ = record { ran = record { told = t; steps = n; place = q }; store = σ }
-
-pub record Runs (x : Result) (r : Ran) (σ : Store) : Type 0 where
-  pub ran : r ≡ x .ran
-  pub left : σ ≡ x .store
-
-abbrev pub wentTo : Gone → Result
-wentTo g = result (toldBy (g .went .reason)) (g .went .steps) (g .went .place) (g .store)
-
 -- the cells of a run on a copy, given back to the store
 abbrev pub givenBack : Store → Gone → Gone
 givenBack σ g = record { went = g .went; store = backTo 2048 (g .store) σ }
 
-unfoldable pub checkedRun : List ℕ → ℕ → ℕ → Held → Store → ℕ → Result
-checkedRun f records cells q σ n =
-    cond (eqb (length σ) cells)
-    (cond (fitsIn f (tableOf f) records q)
-    (wentTo (goOf (ruleOf f (tableOf f) (arraysAt f)) n q (callsOf (q .kinds) (q .count)) σ 0))
-    (result (Refused 21 0) 0 q σ))
-    (result (Refused 20 0) 0 q σ)
+-- a run on the copies, by gates that are those of the file and the table
+pub record Copied (f tab : List ℕ) (records : ℕ) (q : Held) (σ : Store) (n : ℕ) (w : Went) (σ′ : Store) : Type 0 where
+  pub downs : List ℕ
+  pub ups : List ℕ
+  pub leads : Leads (padTo 32768 f) tab records downs ups
+  pub goes : Goes (givenBack σ (goOf (ruleOf (padTo 32768 f) tab downs ups (arraysAt f)) n q (callsOf (q .kinds) (q .count)) (widenTo 2048 σ) 0)) w σ′
+
+-- a run of a program that is accepted: 20, 21, then the steps
+pub data CheckedRun (f : List ℕ) (records cells : ℕ) (q : Held) (σ : Store) (n : ℕ) (r : Ran) (σ′ : Store) : Type 0 where
+  size : (length σ ≡ cells → ⊥) → r ≡ staying 20 0 q → σ′ ≡ σ → CheckedRun f records cells q σ n r σ′
+  place : length σ ≡ cells → fitsIn f (tableOf f) records q ≡ false → r ≡ staying 21 0 q → σ′ ≡ σ → CheckedRun f records cells q σ n r σ′
+  went : {w : Went} → length σ ≡ cells → fitsIn f (tableOf f) records q ≡ true → Copied f (tableOf f) records q σ n w σ′
+      → r ≡ record { told = toldBy (w .reason); steps = w .steps; place = w .place } → CheckedRun f records cells q σ n r σ′
 
 abbrev pub numberOf : Bool → ℕ
 numberOf up = cond up 1 0

@@ -1,16 +1,14 @@
 // The machine: the two starts, a step forward and back, a run of n steps forward and back. Every function is total.
 use place::Place;
 use program::Checked;
+use walk::Went;
 ghost use mathlib.Core.Path.{_≡_};
 ghost use Rattle.moves.specs.Step.{step as forward, stepBack};
 ghost use Rattle.moves.specs.Runs.{run as running, runBack};
 ghost use Rattle.machine.specs.Answers.{StepSays, RunSays, StartSays, direction};
-ghost use Rattle.machine.specs.Whole.{toldBy, staying, Runs, checkedRun, numberOf, startOf};
+ghost use Rattle.machine.specs.Whole.{toldBy, staying, Copied, CheckedRun, numberOf, startOf};
 
 mod copies;
-mod decide;
-mod gates;
-mod set;
 mod walk;
 
 // Whether it was done; else the document's number, and the record (0 where there is none).
@@ -56,6 +54,28 @@ fn stays(number: u8, label: usize, place: Place) -> Ran
     }
 }
 
+// The steps, on copies of the file and the store; the cells are copied back.
+fn went(
+    file: &[u8],
+    table: &[u16; 9344],
+    records: usize,
+    place: Place,
+    store: &mut [i32],
+    n: u32,
+) -> Went
+    ensures { λ r. ⌜ Copied (now (file .entry)) (now (table .entry)) records place (now (store .entry)) n r (now (store .exit)) ⌝ }
+{
+    let bytes = copies::padded(file);
+    let arrays = program::arrays::arrays(file);
+    let downs = decide::gates::gates(&bytes, table, records, 0);
+    let ups = decide::gates::gates(&bytes, table, records, 1);
+    let calls = walk::calls(&place.kinds, place.count);
+    let mut cells = copies::widened(store);
+    let went = walk::go(&bytes, table, &downs, &ups, &arrays, &mut cells, place, calls, n);
+    copies::restored(&cells, store);
+    went
+}
+
 // A run of a program that is accepted: 20, 21, then the steps.
 fn checked(
     file: &[u8],
@@ -65,7 +85,7 @@ fn checked(
     store: &mut [i32],
     n: u32,
 ) -> Ran
-    ensures { λ r. ⌜ Runs (checkedRun (now (file .entry)) records cells place (now (store .entry)) n) r (now (store .exit)) ⌝ }
+    ensures { λ r. ⌜ CheckedRun (now (file .entry)) records cells place (now (store .entry)) n r (now (store .exit)) ⌝ }
 {
     if store.len() != cells {
         return stays(20, 0, place);
@@ -74,15 +94,11 @@ fn checked(
     if !fits::fits(file, &table, records, place) {
         return stays(21, 0, place);
     }
-    let arrays = program::arrays::arrays(file);
-    let calls = walk::calls(&place.kinds, place.count);
-    let downs = gates::gates(file, &table, records, 0);
-    let ups = gates::gates(file, &table, records, 1);
-    let went = walk::go(file, &table, &downs, &ups, &arrays, store, place, calls, n);
-    let last = went.place;
+    let w = went(file, &table, records, place, store, n);
+    let last = w.place;
     Ran {
-        told: answer(went.reason),
-        steps: went.steps,
+        told: answer(w.reason),
+        steps: w.steps,
         place: last,
     }
 }

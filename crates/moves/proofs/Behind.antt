@@ -1,24 +1,28 @@
 -- Cells behind the program's own that are zeros are never read or changed: a step and a run of the longer store are those of the program's own, with the zeros behind.
 use Prim.Native.Nat.{ℕ, zero, suc, _<_}
 use mathlib.Core.Path.{_≡_, refl, ap, _∙_}
-use mathlib.Core.Bool.{Bool, true, false, cond, not}
-use mathlib.Core.List.{List, [], _∷_, _++_}
+use mathlib.Core.Bool.{Bool, true, false, cond, not, Bool·beq}
+use mathlib.Core.List.{List, [], _∷_, _++_, tail}
 use lib.ListN.{length, getD, replicate, set as put, length-set}
 use lib.Seq.{set-append-left}
 use lib.Dec.{ltb}
 use lib.IntN.{ℤ, pos}
 use native.Mathlib.Omega.{arith}
-use Rattle.expr.specs.Tree.{Expr, Name, scalar, array, Same, known}
+use Rattle.expr.specs.Tree.{Expr, known}
+use Rattle.expr.specs.Agreement.{Name, scalar, array, Same}
 use Rattle.expr.proofs.Agree.{eval-names}
-use Rattle.records.specs.Records.{Target, cell, entry, thereTarget, there, Record, names, begin, end, assign, if, else, fi, from, loop, until, call, uncall, skip}
+use Rattle.records.specs.Records.{Target, cell, entry, thereTarget, Record, names, begin, end, assign, if, else, fi, from, loop, until, call, uncall, skip}
 use Rattle.order.specs.Trees.{Tree, recordsOf, cells}
 use Rattle.program.specs.Says.{All, thereIn, Accepts}
-use Rattle.moves.specs.Labels.{at, head}
+use Rattle.moves.specs.Labels.{at}
 use Rattle.moves.specs.Edges.{Frame, inDo}
-use Rattle.moves.specs.Places.{Dir, down, up, Place, calls}
+use Rattle.moves.specs.Places.{Dir, down, up, going, Place, head, calls}
 use Rattle.moves.specs.Stores.{Reason, Answer, ok, no, bind, Store, layout, answered, evaluated, holds, applied, operator, cellOf, assigned}
-use Rattle.moves.specs.Step.{Act, assigns, moves, chooses, closes, opens, tests, enters, returns, nothing, act, after, pop, wanted, again, same, must, returned, perform, step}
-use Rattle.moves.specs.Runs.{Ran, counted, onward, runBy, run}
+use Rattle.moves.specs.Step.{after, again, must, step}
+use Rattle.moves.specs.Step as does
+use Rattle.moves.specs.Runs.{Ran, onward, runBy, run}
+use Rattle.moves.proofs.Runs.{counted}
+use Rattle.moves.proofs.Acts.{Act, assigns, moves, chooses, closes, opens, tests, enters, returns, nothing, act, wanted, perform, step-is}
 use Rattle.moves.proofs.Follow.{and-true}
 use Rattle.moves.proofs.Assign.{cell-there}
 
@@ -37,7 +41,6 @@ longer zs r = record { steps = r .steps; place = r .place; store = r .store ++ z
 
 -- ---- the numbers of a record that is there
 numbers-at : (t : Tree) (rs : List Record) → All (thereIn t) rs → (x : ℕ) → thereIn t (getD rs x (names 0 [])) ≡ true
-unfolding there
 numbers-at t [] a x = refl
 numbers-at t (r ∷ rs) a zero = a 0 (omega arith)
 numbers-at t (r ∷ rs) a (suc x) = numbers-at t rs (λ j h. a (suc j) (omega arith)) x
@@ -49,29 +52,27 @@ Aims t moves = Unit {0}
 Aims t (chooses e h) = Unit {0}
 Aims t (closes e) = Unit {0}
 Aims t (opens e h) = Unit {0}
-Aims t (tests e h) = Unit {0}
+Aims t (tests e) = Unit {0}
 Aims t (enters q d) = Unit {0}
 Aims t returns = Unit {0}
 Aims t nothing = Unit {0}
 
+aims-going : (t : Tree) (d : Dir) (x y : Act) → Aims t x → Aims t y → Aims t (going d x y)
+aims-going t down x y h k = h
+aims-going t up x y h k = k
+
 aims-at : (t : Tree) (r : Record) (h : ℕ) (d : Dir) → thereIn t r ≡ true → Aims t (act r h d)
-unfolding act there
+unfolding act
 aims-at t (names v ls) h d q = tt
-aims-at t begin h down q = tt
-aims-at t begin h up q = tt
-aims-at t end h down q = tt
-aims-at t end h up q = tt
+aims-at t begin h d q = aims-going t d nothing returns tt tt
+aims-at t end h d q = aims-going t d returns nothing tt tt
 aims-at t (assign o x e) h d q = and-true (thereTarget (t .scalars) (length (t .lengths)) x) (known (t .scalars) (length (t .lengths)) e) q .0
-aims-at t (if e) h down q = tt
-aims-at t (if e) h up q = tt
+aims-at t (if e) h d q = aims-going t d (chooses e h) (closes e) tt tt
 aims-at t else h d q = tt
-aims-at t (fi e) h down q = tt
-aims-at t (fi e) h up q = tt
-aims-at t (from e) h down q = tt
-aims-at t (from e) h up q = tt
+aims-at t (fi e) h d q = aims-going t d (closes e) (chooses e h) tt tt
+aims-at t (from e) h d q = aims-going t d (opens e h) (tests e) tt tt
 aims-at t loop h d q = tt
-aims-at t (until e) h down q = tt
-aims-at t (until e) h up q = tt
+aims-at t (until e) h d q = aims-going t d (tests e) (opens e h) tt tt
 aims-at t (call p) h d q = tt
 aims-at t (uncall p) h d q = tt
 aims-at t skip h d q = tt
@@ -137,29 +138,29 @@ module _ (t : Tree) (zs : Store) (zeros : Zeros zs) where
       go (ok c) k (no r) = refused
       go (ok c) k (ok v) = came (put-wide c v (omega (arith, cell-there t σ x c h k))) (length-set σ c _ ∙ n)
 
-  return-wide : (d : Dir) (fs : List Frame) (σ : Store) → length σ ≡ cells t → Wide (returned t d fs σ) (returned t d fs (σ ++ zs))
-  unfolding returned
-  return-wide d [] σ n = refused
-  return-wide d (f ∷ F) σ n = came refl n
+  return-wide : (p : Place) (fs : List Frame) (σ : Store) → length σ ≡ cells t → Wide (does.returns t p σ fs) (does.returns t p (σ ++ zs) fs)
+  return-wide p [] σ n = refused
+  return-wide p (f ∷ F) σ n = came refl n
 
   act-wide : (a : Act) → Aims t a → (p : Place) (σ : Store) → length σ ≡ cells t → Wide (perform t a p σ) (perform t a p (σ ++ zs))
   unfolding perform
   act-wide (assigns o x e) h p σ n = set-wide o x e (p .d) (after t (p .b) (p .d) (p .frames)) σ h n
   act-wide moves h p σ n = came refl n
   act-wide (chooses e l) h p σ n = tested e σ _ _ (λ v. came refl n)
-  act-wide (closes e) h p σ n = tested e σ _ _ (λ v. must-wide (same v (wanted (p .frames))) (after t (p .b) (p .d) (pop (p .frames))) σ n)
+  act-wide (closes e) h p σ n = tested e σ _ _ (λ v. must-wide (Bool·beq v (wanted (p .frames))) (after t (p .b) (p .d) (tail (p .frames))) σ n)
   act-wide (opens e l) h p σ n =
       tested e σ _ _
-      (λ v. either (again l (p .frames)) (must-wide (not v) (after t (p .b) (p .d) (inDo l ∷ pop (p .frames))) σ n) (must-wide v (after t (p .b) (p .d) (inDo l ∷ p .frames)) σ n))
-  act-wide (tests e l) h p σ n = tested e σ _ _ (λ v. came refl n)
+      (λ v. either (again l (p .frames)) (must-wide (not v) (after t (p .b) (p .d) (inDo l ∷ tail (p .frames))) σ n) (must-wide v (after t (p .b) (p .d) (inDo l ∷ p .frames)) σ n))
+  act-wide (tests e) h p σ n = tested e σ _ _ (λ v. came refl n)
   act-wide (enters q d) h p σ n = either (ltb (calls (p .frames)) 64) (came refl n) refused
-  act-wide returns h p σ n = return-wide (p .d) (p .frames) σ n
+  act-wide returns h p σ n = return-wide p (p .frames) σ n
   act-wide nothing h p σ n = came refl n
 
   module _ {f : List ℕ} (A : Accepts f t) where
     pub step-behind : (p : Place) (σ : Store) → length σ ≡ cells t → Wide (step t p σ) (step t p (σ ++ zs))
-    unfolding step
-    step-behind p σ n = act-wide (act (at t (p .b)) (head t (p .b)) (p .d)) (aims-at t (at t (p .b)) (head t (p .b)) (p .d) (numbers-at t (recordsOf t) (A .numbers) (p .b))) p σ n
+    step-behind p σ n =
+        let h = head t (p .b) (p .d) in
+        rw (step-is t p σ, step-is t p (σ ++ zs)) (act-wide (act (at t (p .b)) h (p .d)) (aims-at t (at t (p .b)) h (p .d) (numbers-at t (recordsOf t) (A .numbers) (p .b))) p σ n)
 
     -- the run of the longer store, and that a run keeps the store's size
     pub run-behind : (n : ℕ) (p : Place) (σ : Store) → length σ ≡ cells t → (run t n p (σ ++ zs) ≡ longer zs (run t n p σ)) × (length (run t n p σ .store) ≡ cells t)
