@@ -1,7 +1,4 @@
 -- The laws of `machine`, in the order in which they stand on each other.
-pub mod SetCases
-pub mod GateCases
-pub mod DecideCases
 pub mod WalkCases
 pub mod Room
 pub mod Labels

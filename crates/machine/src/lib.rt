@@ -7,9 +7,6 @@ ghost use Rattle.moves.specs.Runs.{run as running, runBack};
 ghost use Rattle.machine.specs.Answers.{StepSays, RunSays, StartSays, direction};
 ghost use Rattle.machine.specs.Whole.{toldBy, staying, Runs, checkedRun, numberOf, startOf};
 
-mod decide;
-mod gates;
-mod set;
 mod walk;
 
 // Whether it was done; else the document's number, and the record (0 where there is none).
@@ -75,8 +72,8 @@ fn checked(
     }
     let arrays = program::arrays::arrays(file);
     let calls = walk::calls(&place.kinds, place.count);
-    let downs = gates::gates(file, &table, records, 0);
-    let ups = gates::gates(file, &table, records, 1);
+    let downs = decide::gates::gates(file, &table, records, 0);
+    let ups = decide::gates::gates(file, &table, records, 1);
     let went = walk::go(file, &table, &downs, &ups, &arrays, store, place, calls, n);
     let last = went.place;
     Ran {
