@@ -9,13 +9,12 @@ use borrow.Author.Tests.{eq-eqb, ne-eqb, lt-ltb, le-ltb, le-leb, lt-leb}
 use lib.Dec.{ltb, leb, eqb}
 use lib.ListN.{getD, set}
 use Rattle.place.specs.declared.Place.{Place as Held}
-use Rattle.place.specs.Methods.{topAt}
 use Rattle.moves.specs.Stores.{Store}
-use Rattle.machine.specs.declared.decide.Spot.{Spot}
-use Rattle.machine.specs.declared.decide.Move.{Move}
+use Rattle.decide.specs.declared.Spot.{Spot}
+use Rattle.decide.specs.declared.Move.{Move}
+use Rattle.decide.specs.Decide.{Seen, seen, Ruled, Rules}
 use Rattle.machine.specs.declared.walk.Went.{Went}
-use Rattle.machine.specs.Decide.{Rules, ruleOf}
-use Rattle.machine.specs.Walk.{putIn, callsIn, callsOf, spotIn, spotOf, afterOf, Gone, gone, goOf, Goes}
+use Rattle.machine.specs.Walk.{putIn, callsIn, callsOf, spotOf, afterOf, Gone, gone, goOf, Goes}
 
 pub put-near : (s : List ℕ) (i v : ℕ) → i < 1104 → set s i v ≡ putIn s i v
 unfolding putIn
@@ -50,41 +49,42 @@ calls-far s n h = rw (lt-leb n 1104 h)
 pub ruleset counts = (calls-near, calls-far)
 
 -- ---- where a step stands
-pub spot-is : (d b c n : ℕ) (ks ls : List ℕ) (k l : ℕ) → k ≡ topAt ks n 9 → l ≡ topAt ls n 0
-    → _≡_ {A = Spot} (record { direction = d; b = b; calls = c; count = n; kind = k; label = l }) (spotIn d b c n ks ls)
-spot-is d b c n ks ls k l e f = rw (e, f)
+abbrev pub standing : Held → ℕ → Spot
+standing h c = record { direction = h .direction; b = h .b; calls = c; count = h .count }
 
--- ---- a turn
-module _ (f tab arr : List ℕ) (n : ℕ) (q₀ : Held) (c₀ : ℕ) (σ₀ : Store) (made : ℕ) (h : Held) (c : ℕ) (σ : Store)
-    (inv : goOf (ruleOf f tab arr) n q₀ c₀ σ₀ 0 ≡ goOf (ruleOf f tab arr) (n - made) h c σ made) where
-  goes : (r : Went) (τ : Store) → goOf (ruleOf f tab arr) n q₀ c₀ σ₀ 0 ≡ record { went = r; store = τ } → Goes (goOf (ruleOf f tab arr) n q₀ c₀ σ₀ 0) r τ
+stands : (h : Held) (c : ℕ) → seen (standing h c) (h .kinds) (h .labels) ≡ spotOf h c
+unfolding seen
+stands h c = refl
+
+-- ---- a turn, by any rule
+module _ (R : Seen → Store → Ruled) (n : ℕ) (q₀ : Held) (c₀ : ℕ) (σ₀ : Store) (made : ℕ) (h : Held) (c : ℕ) (σ : Store)
+    (inv : goOf R n q₀ c₀ σ₀ 0 ≡ goOf R (n - made) h c σ made) where
+  goes : (r : Went) (τ : Store) → goOf R n q₀ c₀ σ₀ 0 ≡ record { went = r; store = τ } → Goes (goOf R n q₀ c₀ σ₀ 0) r τ
   goes r τ e = record { went = sym (ap (λ (g : Gone). g .went) e); left = sym (ap (λ (g : Gone). g .store) e) }
 
-  pub goes-done : (r : Went) → n ≤ made → r ≡ record { reason = 0; steps = made; place = h } → Goes (goOf (ruleOf f tab arr) n q₀ c₀ σ₀ 0) r σ
+  pub goes-done : (r : Went) → n ≤ made → r ≡ record { reason = 0; steps = made; place = h } → Goes (goOf R n q₀ c₀ σ₀ 0) r σ
   unfolding goOf
   goes-done r k e = let z : n - made ≡ 0 = omega arith in goes r σ (inv ∙ rw (z, e))
 
-  module _ (s : Spot) (ss : s ≡ spotOf h c) (m : Move) (τ : Store) (rules : Rules (ruleOf f tab arr s σ) m τ) (more : made < n) where
+  module _ (m : Move) (τ : Store) (rules : Rules (R (seen (standing h c) (h .kinds) (h .labels)) σ) m τ) (more : made < n) where
     left : n - made ≡ suc (n - (made + 1))
     left = omega arith
 
-    move-is : ruleOf f tab arr (spotOf h c) σ .move ≡ m
-    move-is = sym (rules .made ∙ ap (λ (x : Spot). ruleOf f tab arr x σ .move) ss)
+    move-is : R (spotOf h c) σ .move ≡ m
+    move-is = sym (rules .made ∙ ap (λ (x : Seen). R x σ .move) (stands h c))
 
-    store-is : ruleOf f tab arr (spotOf h c) σ .store ≡ τ
-    store-is = sym (rules .left ∙ ap (λ (x : Spot). ruleOf f tab arr x σ .store) ss)
+    store-is : R (spotOf h c) σ .store ≡ τ
+    store-is = sym (rules .left ∙ ap (λ (x : Seen). R x σ .store) (stands h c))
 
-    pub goes-refused : (r : Went) → (m .reason ≡ 0 → ⊥) → r ≡ record { reason = m .reason; steps = made; place = h } → Goes (goOf (ruleOf f tab arr) n q₀ c₀ σ₀ 0) r τ
+    pub goes-refused : (r : Went) → (m .reason ≡ 0 → ⊥) → r ≡ record { reason = m .reason; steps = made; place = h } → Goes (goOf R n q₀ c₀ σ₀ 0) r τ
     unfolding goOf
     goes-refused r e w = goes r τ (inv ∙ rw (left, move-is, store-is, ne-eqb (m .reason) 0 e, w))
 
     pub goes-on : m .reason ≡ 0 → (ks ls : List ℕ) → ks ≡ putIn (h .kinds) (m .slot) (m .kind) → ls ≡ putIn (h .labels) (m .slot) (m .label)
-        → goOf (ruleOf f tab arr) n q₀ c₀ σ₀ 0
-        ≡ goOf (ruleOf f tab arr) (n - (made + 1)) (record { direction = m .direction; a = m .a; b = m .b; count = m .count; kinds = ks; labels = ls }) (m .calls) τ (made + 1)
+        → goOf R n q₀ c₀ σ₀ 0
+        ≡ goOf R (n - (made + 1)) (record { direction = m .direction; a = m .a; b = m .b; count = m .count; kinds = ks; labels = ls }) (m .calls) τ (made + 1)
     unfolding goOf
     goes-on e ks ls ek el = inv ∙ rw (left, move-is, store-is, eq-eqb (m .reason) 0 e, ek, el)
 
-pub go-start : (f tab arr : List ℕ) (n : ℕ) (q : Held) (c : ℕ) (σ : Store) → goOf (ruleOf f tab arr) n q c σ 0 ≡ goOf (ruleOf f tab arr) (n - 0) q c σ 0
-go-start f tab arr n q c σ = let z : n - 0 ≡ n = omega arith in rw z
-
-pub ruleset turns = (goes-done, goes-refused, goes-on, go-start)
+pub go-start : (R : Seen → Store → Ruled) (n : ℕ) (q : Held) (c : ℕ) (σ : Store) → goOf R n q c σ 0 ≡ goOf R (n - 0) q c σ 0
+go-start R n q c σ = let z : n - 0 ≡ n = omega arith in rw z

@@ -8,10 +8,9 @@ use lib.Dec.{ltb, leb, eqb}
 use Rattle.place.specs.declared.Place.{Place as Held}
 use Rattle.place.specs.Methods.{topAt}
 use Rattle.moves.specs.Stores.{Store}
-use Rattle.machine.specs.declared.decide.Spot.{Spot}
-use Rattle.machine.specs.declared.decide.Move.{Move}
+use Rattle.decide.specs.declared.Move.{Move}
+use Rattle.decide.specs.Decide.{Seen, Ruled}
 use Rattle.machine.specs.declared.walk.Went.{Went}
-use Rattle.machine.specs.Decide.{Ruled}
 
 unfoldable pub putIn : List ℕ → ℕ → ℕ → List ℕ
 putIn s i v = cond (ltb i 1104) (set s i v) s
@@ -23,10 +22,10 @@ callsIn s (suc n) = cond (eqb (getD s n 0) 4) (suc (callsIn s n)) (callsIn s n)
 abbrev pub callsOf : List ℕ → ℕ → ℕ
 callsOf s n = cond (leb n 1104) (callsIn s n) 0
 
-abbrev pub spotIn : ℕ → ℕ → ℕ → ℕ → List ℕ → List ℕ → Spot
+abbrev pub spotIn : ℕ → ℕ → ℕ → ℕ → List ℕ → List ℕ → Seen
 spotIn d b c n ks ls = record { direction = d; b = b; calls = c; count = n; kind = topAt ks n 9; label = topAt ls n 0 }
 
-abbrev pub spotOf : Held → ℕ → Spot
+abbrev pub spotOf : Held → ℕ → Seen
 spotOf h c = spotIn (h .direction) (h .b) c (h .count) (h .kinds) (h .labels)
 
 abbrev pub afterOf : Held → Move → Held
@@ -43,7 +42,7 @@ abbrev pub gone : ℕ → ℕ → Held → Store → Gone
 gone r n h σ = record { went = record { reason = r; steps = n; place = h }; store = σ }
 
 -- at most n steps, after `made`
-unfoldable pub goOf : (Spot → Store → Ruled) → ℕ → Held → ℕ → Store → ℕ → Gone
+unfoldable pub goOf : (Seen → Store → Ruled) → ℕ → Held → ℕ → Store → ℕ → Gone
 goOf R zero h c σ made = gone 0 made h σ
 goOf R (suc n) h c σ made =
     cond (eqb (R (spotOf h c) σ .move .reason) 0)

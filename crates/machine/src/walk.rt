@@ -1,13 +1,11 @@
 // The loop of a run: one place, taken apart into locals, into which each step stores; no copy of it is made in a turn.
-use crate::decide::Spot;
-use crate::decide::decide;
+use decide::Spot;
+use decide::decide;
 use place::Place;
-use place::top_of;
 ghost use mathlib.Core.Path.{_≡_};
 ghost use Prim.Native.Nat.{_≤_};
-ghost use Rattle.machine.specs.Decide.{ruleOf};
-ghost use Rattle.machine.specs.Gates.{Leads};
-ghost use Rattle.machine.specs.Walk.{putIn, callsIn, callsOf, spotIn, endedIn, goOf, Goes};
+ghost use Rattle.decide.specs.Decide.{ruleOf};
+ghost use Rattle.machine.specs.Walk.{putIn, callsIn, callsOf, endedIn, goOf, Goes};
 
 // How far it went: why it stopped (0: all steps were made), how many were made, and where it is.
 pub struct Went {
@@ -77,44 +75,20 @@ pub fn calls(kinds: &[u16; 1104], n: usize) -> u16
     0
 }
 
-// Where a step stands, with the innermost frame.
-fn spot(
-    direction: u8,
-    b: u16,
-    calls: u16,
-    count: usize,
-    kinds: &[u16; 1104],
-    labels: &[u16; 1104],
-) -> Spot
-    ensures { λ r. ⌜ r ≡ spotIn direction b calls count (now (kinds .entry)) (now (labels .entry)) ⌝ }
-{
-    let kind = top_of(kinds, count, 9);
-    let label = top_of(labels, count, 0);
-    Spot {
-        direction,
-        b,
-        calls,
-        count,
-        kind,
-        label,
-    }
-}
-
 // At most n steps from a place of which so many frames are calls. In the loop the place is taken apart, so that all but the
 // frames stays in registers.
 pub fn go(
-    file: &[u8],
+    bytes: &[u8; 32768],
     table: &[u16; 9344],
     downs: &[u16; 2048],
     ups: &[u16; 2048],
     arrays: &[u16; 32],
-    store: &mut [i32],
+    cells: &mut [i32; 2048],
     place: Place,
     calls: u16,
     n: u32,
 ) -> Went
-    requires { ⌜ Leads (now file) (now table) (now downs) (now ups) ⌝ }
-    ensures { λ r. ⌜ Goes (goOf (ruleOf (now (file .entry)) (now (table .entry)) (now (arrays .entry))) n place calls (now (store .entry)) 0) r (now (store .exit)) ⌝ }
+    ensures { λ r. ⌜ Goes (goOf (ruleOf (now (bytes .entry)) (now (table .entry)) (now (downs .entry)) (now (ups .entry)) (now (arrays .entry))) n place calls (now (cells .entry)) 0) r (now (cells .exit)) ⌝ }
 {
     let mut kinds = place.kinds;
     let mut labels = place.labels;
@@ -125,8 +99,13 @@ pub fn go(
     let mut deep = calls;
     let mut made: u32 = 0;
     while made < n {
-        let s = spot(direction, b, deep, count, &kinds, &labels);
-        let m = decide(s, file, table, downs, ups, arrays, store);
+        let s = Spot {
+            direction,
+            b,
+            calls: deep,
+            count,
+        };
+        let m = decide(s, &kinds, &labels, bytes, table, downs, ups, arrays, cells);
         if m.reason != 0 {
             return ended(m.reason, made, direction, a, b, count, kinds, labels);
         }

@@ -1,53 +1,60 @@
 -- `machine::walk::go` meets its contract. The loop's invariant: what is left to run is the run's. Assumes nothing.
-use mathlib.Core.Path.{_≡_, refl, _∙_}
+use mathlib.Core.Path.{_≡_}
 use Prim.Native.Nat.{_-_, _≤_}
 use native.Mathlib.Omega.{arith}
-use lib.ListN.{length}
 use borrow.Author.Needs.{needs}
 use Rattle.place.specs.declared.Place.{Place as Held}
-use Rattle.machine.specs.Decide.{ruleOf}
+use Rattle.moves.specs.Stores.{Store}
+use Rattle.decide.specs.Decide.{Seen, Ruled, ruleOf}
+use Rattle.decide.proofs.decide.Reads as decide-reads
 use Rattle.machine.specs.Walk.{goOf}
 use Rattle.machine.proofs.WalkCases.{go-start, goes-refused, goes-on, goes-done}
 use Rattle.machine.proofs.walk.go.Statement.{statement}
 use Rattle.machine.proofs.walk.go.Tie as tie
 use Rattle.machine.proofs.walk.go.Reads as reads
 use Rattle.machine.proofs.walk.go.Lts as lts
-use Rattle.machine.proofs.decide.decide.Reads as decide-reads
 use Rattle.machine.proofs.walk.ended.Reads as ended-reads
 use Rattle.machine.proofs.walk.put.Reads as put-reads
-use Rattle.machine.proofs.walk.spot.Reads as spot-reads
 
 abbrev Inv-loop : tie.InvT-loop
-Inv-loop file table downs ups arrays store₀ calls n kinds₀ labels₀ direction₀ a₀ b₀ count₀ deep₀ made₀ store kinds labels direction a b count deep made =
-    (made ≤ n) × (length store ≡ length store₀)
-    × (goOf (ruleOf file table arrays) n (record { direction = direction₀; a = a₀; b = b₀; count = count₀; kinds = kinds₀; labels = labels₀ }) calls store₀ 0
-    ≡ goOf (ruleOf file table arrays) (n - made) (record { direction = direction; a = a; b = b; count = count; kinds = kinds; labels = labels }) deep store made)
+Inv-loop bytes table downs ups arrays cells₀ calls n kinds₀ labels₀ direction₀ a₀ b₀ count₀ deep₀ made₀ cells kinds labels direction a b count deep made =
+    (made ≤ n)
+    × (goOf (ruleOf bytes table downs ups arrays) n (record { direction = direction₀; a = a₀; b = b₀; count = count₀; kinds = kinds₀; labels = labels₀ }) calls cells₀ 0
+    ≡ goOf (ruleOf bytes table downs ups arrays) (n - made) (record { direction = direction; a = a; b = b; count = count; kinds = kinds; labels = labels }) deep cells made)
 
 abbrev μ-loop : tie.MeasureT-loop
-μ-loop file table downs ups arrays store₀ calls n kinds₀ labels₀ direction₀ a₀ b₀ count₀ deep₀ made₀ store kinds labels direction a b count deep made =
+μ-loop bytes table downs ups arrays cells₀ calls n kinds₀ labels₀ direction₀ a₀ b₀ count₀ deep₀ made₀ cells kinds labels direction a b count deep made =
     n - made
 
 abbrev Known : Type 0
-Known = lts.After-struct-known (spot-reads.Asked, spot-reads.Learnt, decide-reads.Asked, decide-reads.Learnt, ended-reads.Asked, ended-reads.Learnt, put-reads.Asked, put-reads.Learnt) reads.Pre reads.Post Inv-loop μ-loop
+Known = lts.After-struct-known (decide-reads.Asked, decide-reads.Learnt, ended-reads.Asked, ended-reads.Learnt, put-reads.Asked, put-reads.Learnt) reads.Pre reads.Post Inv-loop μ-loop
 
 abbrev Looped : Type 0
-Looped = lts.At-loop (spot-reads.Asked, spot-reads.Learnt, decide-reads.Asked, decide-reads.Learnt, ended-reads.Asked, ended-reads.Learnt, put-reads.Asked, put-reads.Learnt) reads.Pre reads.Post Inv-loop μ-loop
+Looped = lts.At-loop (decide-reads.Asked, decide-reads.Learnt, ended-reads.Asked, ended-reads.Learnt, put-reads.Asked, put-reads.Learnt) reads.Pre reads.Post Inv-loop μ-loop
 
-abbrev in-turn : Known → lts.In-loop (spot-reads.Asked, spot-reads.Learnt, decide-reads.Asked, decide-reads.Learnt, ended-reads.Asked, ended-reads.Learnt, put-reads.Asked, put-reads.Learnt) reads.Pre reads.Post Inv-loop μ-loop
-in-turn k = k .before .before .before .before .before .before .before
+abbrev Started : Type 0
+Started = lts.Start (decide-reads.Asked, decide-reads.Learnt, ended-reads.Asked, ended-reads.Learnt, put-reads.Asked, put-reads.Learnt) reads.Pre reads.Post Inv-loop μ-loop
+
+abbrev in-turn : Known → lts.In-loop (decide-reads.Asked, decide-reads.Learnt, ended-reads.Asked, ended-reads.Learnt, put-reads.Asked, put-reads.Learnt) reads.Pre reads.Post Inv-loop μ-loop
+in-turn k = k .before .before .before .before .before
 
 abbrev looped : Known → Looped
 looped k = in-turn k .before
 
-abbrev started : Known → lts.Start (spot-reads.Asked, spot-reads.Learnt, decide-reads.Asked, decide-reads.Learnt, ended-reads.Asked, ended-reads.Learnt, put-reads.Asked, put-reads.Learnt) reads.Pre reads.Post Inv-loop μ-loop
-started k = looped k .before .before .before .before
+abbrev started : Known → Started
+started k = looped k .before .before .before
+
+-- the rule by the arrays that were lent
+abbrev rule : Started → Seen → Store → Ruled
+rule s = ruleOf (s .args .bytes .now) (s .args .table .now) (s .args .downs .now) (s .args .ups .now) (s .args .arrays .now)
 
 -- the place that the locals are
 abbrev held : Looped → Held
 held l = record { direction = l .loop .direction; a = l .loop .a; b = l .loop .b; count = l .loop .count; kinds = l .loop .kinds; labels = l .loop .labels }
 
-same : (k : Known) → length (k .before .before .decide .last .1 .1 .1 .1 .1 .1 .0) ≡ length (started k .args .store .now)
-same k = k .before .before .decide .kept .1 .1 .1 .1 .1 .1 .0 ∙ looped k .loop .inv .1
+-- the store that the decision left
+abbrev stored : Known → Store
+stored k = k .before .decide .last .1 .1 .1 .1 .1 .1 .1 .1 .0
 
 pub go-spec : {M : Type 1} → statement M
 go-spec =
@@ -55,21 +62,17 @@ go-spec =
     (tie.spec
     Inv-loop
     μ-loop
-    (λ c. (omega arith, refl, go-start _ _ _ _ _ _ _))
+    (λ c. (omega arith, go-start _ _ _ _ _))
     (λ c κs. search needs)
     (λ c κs. search needs)
-    (λ c κs. search needs)
-    (λ c. same (c .before .before))
-    (λ c. let k = c .before .before in goes-refused (started k .args .file .now) (started k .args .table .now) (started k .args .arrays .now) (started k .args .n) (started k .args .place) (started k .args .calls) (started k .args .store .now) (looped k .loop .made) (held (looped k)) (looped k .loop .deep) (looped k .loop .store) (looped k .loop .inv .2) (k .before .before .before .before .spot .result) (k .before .before .before .before .spot .ensures) (k .before .before .decide .result) (k .before .before .decide .last .1 .1 .1 .1 .1 .1 .0) (k .before .before .decide .ensures) (in-turn k .loop-test .taken) _ (c .before .if1 .taken) (c .ended .ensures))
+    (λ c. let k = c .before .before in goes-refused (rule (started k)) (started k .args .n) (started k .args .place) (started k .args .calls) (started k .args .cells .now) (looped k .loop .made) (held (looped k)) (looped k .loop .deep) (looped k .loop .cells) (looped k .loop .inv .1) (k .before .decide .result) (stored k) (k .before .decide .ensures) (in-turn k .loop-test .taken) _ (c .before .if1 .taken) (c .ended .ensures))
     (λ c. omega (arith, in-turn (c .before) .loop-test .taken, started (c .before) .fits .n))
     (λ c κs. search needs)
     (λ c κs. search needs)
     (λ c. omega (arith, in-turn (c .before .before .before .before .before) .loop-test .taken))
     (λ c. let e = c .before .before .before .before in let k = e .before in (
       omega (arith, in-turn k .loop-test .taken),
-      same k,
-      goes-on (started k .args .file .now) (started k .args .table .now) (started k .args .arrays .now) (started k .args .n) (started k .args .place) (started k .args .calls) (started k .args .store .now) (looped k .loop .made) (held (looped k)) (looped k .loop .deep) (looped k .loop .store) (looped k .loop .inv .2) (k .before .before .before .before .spot .result) (k .before .before .before .before .spot .ensures) (k .before .before .decide .result) (k .before .before .decide .last .1 .1 .1 .1 .1 .1 .0) (k .before .before .decide .ensures) (in-turn k .loop-test .taken) (e .if1 .left) _ _ (c .before .before .put .ensures) (c .put2 .ensures),
+      goes-on (rule (started k)) (started k .args .n) (started k .args .place) (started k .args .calls) (started k .args .cells .now) (looped k .loop .made) (held (looped k)) (looped k .loop .deep) (looped k .loop .cells) (looped k .loop .inv .1) (k .before .decide .result) (stored k) (k .before .decide .ensures) (in-turn k .loop-test .taken) (e .if1 .left) _ _ (c .before .before .put .ensures) (c .put2 .ensures),
     ))
     (λ c κs. search needs)
-    (λ c. c .before .before .loop .inv .1)
-    (λ c. goes-done _ _ _ _ _ _ _ _ _ _ _ (c .before .before .loop .inv .2) _ (c .before .loop-test .left) (c .ended2 .ensures)))
+    (λ c. goes-done _ _ _ _ _ _ _ _ _ (c .before .before .loop .inv .1) _ (c .before .loop-test .left) (c .ended2 .ensures)))
