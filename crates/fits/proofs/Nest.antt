@@ -9,7 +9,8 @@ use lib.ListN.{length, List·getD-eq-default}
 use native.Mathlib.Omega.{arith}
 use Rattle.records.specs.Records.{names, kind}
 use Rattle.order.specs.Trees.{Block, Tree, procedures, recordsOf}
-use Rattle.moves.specs.Labels.{at, sizeB}
+use Rattle.moves.specs.Labels.{at}
+use Rattle.moves.proofs.Sizes.{sizeB}
 use Rattle.moves.specs.Edges.{Frame, inThen, inElse, inDo, inLoop, frameKind, frameLabel}
 use Rattle.moves.proofs.Linked.{Con, Rec, nameL, beginL, endL, setL, skipL, ifL, elseL, fiL, fromL, loopL, untilL, callL, uncallL, Prog, forget}
 use Rattle.moves.proofs.Cuts.{Span, SimpleOk, ProcOk, Local, Wf}

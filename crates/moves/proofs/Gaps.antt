@@ -6,16 +6,21 @@ use mathlib.Core.Logic.{⊎-elim}
 use native.Mathlib.Omega.{arith}
 use native.Mathlib.Nat.{suc-pred-eq-of-pos}
 use Rattle.order.specs.Trees.{Stmt, setS, skipS, callS, uncallS, ifS, fromS, Block, one, _then_, Tree, procedures}
-use Rattle.moves.specs.Labels.{sizeS, sizeB, exit}
+use Rattle.moves.proofs.Sizes.{sizeS, sizeB}
 use Rattle.moves.specs.Edges.{Frame, inThen, inElse, inDo, inLoop, Edge, edge, edgesS, edgesB, edgesP, edges}
 use Rattle.moves.specs.Places.{Dir, down, up}
 use Rattle.moves.specs.Stores.{holds}
 use Rattle.moves.proofs.Linked.{Prog, onto, off, side}
 use Rattle.moves.proofs.Cuts.{met}
 use Rattle.moves.proofs.Rows.{beginFrom, endFrom, rowsS, rowsB, lengthS, lengthB, Holds, holds-left, holds-right, holds-around, entry-is, endS, rowsP, prog}
+use Rattle.moves.proofs.Links.{size-is, sizes-are}
 use Rattle.moves.proofs.Locals.{either}
 use Rattle.moves.proofs.Whole.{Suffix, rest, suffix}
 use mathlib.Core.List.{List·Memᴰ, List·Memᴰ·head, List·Memᴰ·tail, List·Memᴰ·not-nil, List·Memᴰ·append-cases, Memᴰ·append-left, Memᴰ·append-right}
+
+-- The last label of a statement whose first is n.
+abbrev exit : Stmt → ℕ → ℕ
+exit s n = pred (n + sizeS s)
 
 -- The ends of the gap g.
 abbrev pub tip : Prog → ℕ → Dir → ℕ
@@ -88,38 +93,38 @@ module _ (P : Prog) where
     edges-areS (uncallS p) q F n h = refl
     edges-areS (ifS e s t e′) q F n h =
         let k = holds-around P n (sizeB s) (sizeB t) _ _ _ _ _ (lengthB s _ _) (lengthB t _ _) h in
-        ap₂ _++_ (edges-areB s q (inThen n ∷ F) n (suc n) _ (k .left) (omega arith) (k .en-l) (rw (k .at-l)) (rw (k .at-m)))
+        rw (sizes-are s, sizes-are t) (ap₂ _++_ (edges-areB s q (inThen n ∷ F) n (suc n) _ (k .left) (omega arith) (k .en-l) (rw (k .at-l)) (rw (k .at-m)))
         (edges-areB t q (inElse n ∷ F) n (suc (suc n + sizeB s)) _ (k .right) (omega arith) (k .en-m) (rw (k .at-m)) (rw (k .at-r)))
         ∙ (rw (
           let z : sizeB s + suc (sizeB t + 1) ≡ suc (sizeB s) + suc (sizeB t) = omega arith in z,
           gaps-append q (suc (sizeB s)) (suc (sizeB t)) n,
           let z : n + suc (sizeB s) ≡ suc n + sizeB s = omega arith in z,
-        ))
+        )))
     edges-areS (fromS e s t e′) q F n h =
         let k = holds-around P n (sizeB s) (sizeB t) _ _ _ _ _ (lengthB s _ _) (lengthB t _ _) h in
-        ap₂ _++_ (edges-areB s q (inDo n ∷ F) n (suc n) _ (k .left) (omega arith) (k .en-l) (rw (k .at-l)) (rw (k .at-m)))
+        rw (sizes-are s, sizes-are t) (ap₂ _++_ (edges-areB s q (inDo n ∷ F) n (suc n) _ (k .left) (omega arith) (k .en-l) (rw (k .at-l)) (rw (k .at-m)))
         (edges-areB t q (inLoop n ∷ F) _ (suc (suc n + sizeB s)) n (k .right) (omega arith) (k .en-m) (rw (k .at-m)) (rw (k .at-r)))
         ∙ (rw (
           let z : sizeB s + suc (sizeB t + 1) ≡ suc (sizeB s) + suc (sizeB t) = omega arith in z,
           gaps-append q (suc (sizeB s)) (suc (sizeB t)) n,
           let z : n + suc (sizeB s) ≡ suc n + sizeB s = omega arith in z,
-        ))
+        )))
 
     pub edges-areB : (b : Block) (q : ℕ) (F : List Frame) (a n z : ℕ) → Holds P n (rowsB b F n) → 0 < n → P .encl (pred n) ≡ F → tip P (pred n) up ≡ a
         → onto (P .at (n + sizeB b)) (n + sizeB b) ≡ z → edgesB b q F a n z ≡ gaps q (suc (sizeB b)) (pred n)
     edges-areB (one s) q F a n z h p en ta tz =
         let i = suc-pred-eq-of-pos p in
-        ap₂ _∷_ (gap-is q (pred n) F a n en ta (rw i (entry-is P s F n h)))
-        (join q s n 0 _ _ (edges-areS s q F n h) (last-edge q s F n z h tz) ∙ rw (i, let y : sizeS s + 0 ≡ sizeS s = omega arith in y))
+        rw (size-is s) (ap₂ _∷_ (gap-is q (pred n) F a n en ta (rw i (entry-is P s F n h)))
+        (join q s n 0 _ _ (edges-areS s q F n h) (last-edge q s F n z h tz) ∙ rw (i, let y : sizeS s + 0 ≡ sizeS s = omega arith in y)))
     edges-areB (_then_ s b) q F a n z h p en ta tz =
         let i = suc-pred-eq-of-pos p in
         let hs = holds-left P n (rowsS s F n) (rowsB b F (n + sizeS s)) h in
         let hb = holds-right P n (sizeS s) (rowsS s F n) (rowsB b F (n + sizeS s)) (lengthS s F n) h in
-        ap₂ _∷_ (gap-is q (pred n) F a n en ta (rw i (entry-is P s F n hs)))
+        rw (size-is s) (ap₂ _∷_ (gap-is q (pred n) F a n en ta (rw i (entry-is P s F n hs)))
         (join q s n (sizeB b) _ _ (edges-areS s q F n hs)
         (edges-areB b q F (exit s n) (n + sizeS s) z hb (omega arith) (ends s F n hs) (exit-is s F n hs)
         (rw (let y : n + sizeS s + sizeB b ≡ n + (sizeS s + sizeB b) = omega arith in y) tz))
-        ∙ rw i)
+        ∙ rw i))
 
   pub in-gaps : (q k g : ℕ) (e : Edge) → List·Memᴰ e (gaps q k g) → (x : ℕ) × (g ≤ x) × (x < g + k) × (e ≡ gapAt q x)
   in-gaps q zero g e h = absurd (List·Memᴰ·not-nil h)
@@ -131,6 +136,11 @@ module _ (P : Prog) where
   gaps-have q (suc k) g x a b = either x (suc g)
       (λ h. List·Memᴰ·head (ap (gapAt q) (omega arith)))
       (λ h. List·Memᴰ·tail (gaps-have q k (suc g) x h (omega arith)))
+
+-- The edges of the first procedure come first.
+edges-first : (b : Block) (bs : List Block) (q n : ℕ) → edgesP (b ∷ bs) q n ≡ edgesB b q [] n (suc n) (suc n + sizeB b) ++ edgesP bs (suc q) (suc (suc n + sizeB b))
+unfolding edgesP
+edges-first b bs q n = rw (sizes-are b)
 
 -- The edges of a program are the gaps of its procedures.
 pub record Gap (P : Prog) (e : Edge) : Type 0 where
@@ -160,7 +170,7 @@ module _ (τ : Tree) (P : Prog) where
   gap-of (b ∷ bs) n q₀ s e h =
       ⊎-elim (λ m. here (in-gaps P q₀ (suc (sizeB b)) n e (subst (List·Memᴰ e) (block-edges b bs n q₀ s) m)))
       (λ m. gap-of bs (suc (suc n + sizeB b)) (suc q₀) (rest τ P b bs n q₀ s) e m)
-      (List·Memᴰ·append-cases (edgesB b q₀ [] n (suc n) (suc n + sizeB b)) h)
+      (List·Memᴰ·append-cases (edgesB b q₀ [] n (suc n) (suc n + sizeB b)) (subst (List·Memᴰ e) (edges-first b bs q₀ n) h))
     where
       here : (x : ℕ) × (n ≤ x) × (x < n + suc (sizeB b)) × (e ≡ gapAt P q₀ x) → Gap P e
       here r =
@@ -179,15 +189,17 @@ module _ (τ : Tree) (P : Prog) where
       let j = begins-at b bs n q₀ s in
       let z : q₀ + 0 ≡ q₀ = omega arith in
       let f = ap (P .first) z in let l = ap (P .last) z in
-      Memᴰ·append-left _ (subst⁻¹ (List·Memᴰ (gapAt P (q₀ + 0) g)) (block-edges b bs n q₀ s)
+      subst⁻¹ (List·Memᴰ (gapAt P (q₀ + 0) g)) (edges-first b bs q₀ n)
+      (Memᴰ·append-left _ (subst⁻¹ (List·Memᴰ (gapAt P (q₀ + 0) g)) (block-edges b bs n q₀ s)
       (subst⁻¹ (λ q. List·Memᴰ (gapAt P q g) (gaps P q₀ (suc (sizeB b)) n)) z
-      (gaps-have P q₀ (suc (sizeB b)) n g (omega (arith, j .0)) (omega (arith, j .1)))))
+      (gaps-have P q₀ (suc (sizeB b)) n g (omega (arith, j .0)) (omega (arith, j .1))))))
   gap-in (b ∷ bs) n q₀ s (suc k) g a c =
       let z : q₀ + suc k ≡ suc q₀ + k = omega arith in
       let f = ap (P .first) z in let l = ap (P .last) z in
-      Memᴰ·append-right (edgesB b q₀ [] n (suc n) (suc n + sizeB b))
+      subst⁻¹ (List·Memᴰ (gapAt P (q₀ + suc k) g)) (edges-first b bs q₀ n)
+      (Memᴰ·append-right (edgesB b q₀ [] n (suc n) (suc n + sizeB b))
       (subst⁻¹ (λ q. List·Memᴰ (gapAt P q g) (edgesP bs (suc q₀) (suc (suc n + sizeB b)))) z
-      (gap-in bs (suc (suc n + sizeB b)) (suc q₀) (rest τ P b bs n q₀ s) k g (omega arith) (omega arith)))
+      (gap-in bs (suc (suc n + sizeB b)) (suc q₀) (rest τ P b bs n q₀ s) k g (omega arith) (omega arith))))
 
 pub on-edge : (τ : Tree) (e : Edge) → List·Memᴰ e (edges τ) → Gap (prog τ) e
 on-edge τ e h = gap-of τ (prog τ) (procedures τ) 1 0 (suffix τ) e h

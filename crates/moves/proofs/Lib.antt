@@ -1,4 +1,5 @@
 pub mod Linked
+pub mod Sizes
 pub mod Cuts
 pub mod Loop
 pub mod Rows

@@ -7,7 +7,6 @@ use Rattle.values.specs.Values.{wrap, applyOp}
 use Rattle.expr.specs.Tree.{con, var, bin, encode, eval}
 use Rattle.records.specs.Records.{cell, kind, body, encodeRecord, bytesOf}
 use Rattle.order.specs.Trees.{Tree, setS, skipS, callS, fromS, one, _then_, recordsOf, recordsP, recordsS}
-use Rattle.moves.specs.Labels.{sizeS}
 use Rattle.moves.specs.Edges.{edgesS, edgesP}
 use Rattle.moves.specs.Places.{Place, down, find}
 use Rattle.moves.specs.Stores.{atEnd, tooDeep, bind, evaluated, holds, startsFrom, cellOf, assigned}
@@ -34,11 +33,11 @@ last = record { a = 7; b = 8; d = down; frames = [] }
 
 -- "steps 12 stop 30, at 7 8 down, cell 0 3, cell 1 3"
 counting-run : run counting 1000 (start counting down) (pos 0 ∷ pos 0 ∷ []) ≡ record { steps = 12; place = last; store = pos 3 ∷ pos 3 ∷ []; stop = because atEnd }
-unfolding runBy step executes after find bind evaluated holds cellOf assigned startsFrom recordsOf recordsP recordsS sizeS edgesS edgesP kind eval applyOp wrap
+unfolding runBy step executes after find bind evaluated holds cellOf assigned startsFrom recordsOf recordsP recordsS edgesS edgesP kind eval applyOp wrap
 counting-run = refl
 
 counting-back : runBack counting 1000 last (pos 3 ∷ pos 3 ∷ []) ≡ record { steps = 12; place = start counting down; store = pos 0 ∷ pos 0 ∷ []; stop = because atEnd }
-unfolding runBy step stepBack executes after find bind evaluated holds cellOf assigned startsFrom recordsOf recordsP recordsS sizeS edgesS edgesP kind eval applyOp wrap
+unfolding runBy step stepBack executes after find bind evaluated holds cellOf assigned startsFrom recordsOf recordsP recordsS edgesS edgesP kind eval applyOp wrap
 counting-back = refl
 
 -- "Main CALL 1, procedure 1 CALL 1: 64 steps, the next is 34; 64 back reach the start, then 30."
@@ -49,13 +48,13 @@ abbrev deepest : Ran
 deepest = run deep 1000 (start deep down) []
 
 deep-run : deepest .steps ≡ 64
-unfolding runBy step executes after find bind evaluated holds cellOf assigned startsFrom recordsOf recordsP recordsS sizeS edgesS edgesP kind
+unfolding runBy step executes after find bind evaluated holds cellOf assigned startsFrom recordsOf recordsP recordsS edgesS edgesP kind
 deep-run = refl
 
 deep-reason : deepest .stop ≡ because tooDeep
-unfolding runBy step executes after find bind evaluated holds cellOf assigned startsFrom recordsOf recordsP recordsS sizeS edgesS edgesP kind
+unfolding runBy step executes after find bind evaluated holds cellOf assigned startsFrom recordsOf recordsP recordsS edgesS edgesP kind
 deep-reason = refl
 
 deep-back : runBack deep 1000 (deepest .place) (deepest .store) ≡ record { steps = 64; place = start deep down; store = []; stop = because atEnd }
-unfolding runBy step stepBack executes after find bind evaluated holds cellOf assigned startsFrom recordsOf recordsP recordsS sizeS edgesS edgesP kind
+unfolding runBy step stepBack executes after find bind evaluated holds cellOf assigned startsFrom recordsOf recordsP recordsS edgesS edgesP kind
 deep-back = refl

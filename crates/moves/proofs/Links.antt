@@ -5,10 +5,11 @@ use mathlib.Core.List.{List, [], _∷_, _++_}
 use lib.ListN.{length, getD}
 use Rattle.records.specs.Records.{Record, names}
 use Rattle.order.specs.Trees.{Stmt, setS, skipS, callS, uncallS, ifS, fromS, Block, one, _then_, Tree, procedures, recordsS, recordsB, recordsP, recordsOf}
-use Rattle.moves.specs.Labels.{at, sizeS, sizeB}
+use Rattle.moves.specs.Labels.{at}
+use Rattle.moves.proofs.Sizes.{sizeS, sizeB}
 use Rattle.moves.specs.Edges.{Frame, inThen, inElse, inDo, inLoop}
 use Rattle.moves.proofs.Linked.{forget}
-use Rattle.moves.proofs.Rows.{Row, around, rowsS, rowsB, lengthS, rowsP, noRow, rowsOf, prog}
+use Rattle.moves.proofs.Rows.{Row, around, rowsS, rowsB, lengthS, lengthB, rowsP, noRow, rowsOf, prog}
 
 -- Rows that are these records.
 data Same : List Row → List Record → Type 0 where
@@ -58,6 +59,9 @@ pub at-is : (τ : Tree) (x : ℕ) → at τ x ≡ forget (prog τ .at x)
 unfolding prog
 at-is τ x = same-at (sameOf τ) x
 
--- A statement has as many records as its size says.
+-- A statement, and a row of them, has as many records as its size says.
 pub size-is : (s : Stmt) → length (recordsS s) ≡ sizeS s
 size-is s = same-length (sameS s [] 0) ∙ lengthS s [] 0
+
+pub sizes-are : (b : Block) → length (recordsB b) ≡ sizeB b
+sizes-are b = same-length (sameB b [] 0) ∙ lengthB b [] 0

@@ -10,7 +10,7 @@ use borrow.Author.Tests.{ltb-true, ltb-false, ne-eqb}
 use Rattle.expr.specs.Tree.{Expr}
 use Rattle.records.specs.Records.{Target}
 use Rattle.order.specs.Trees.{Stmt, setS, skipS, callS, uncallS, ifS, fromS, Block, one, _then_, Tree}
-use Rattle.moves.specs.Labels.{sizeS, sizeB}
+use Rattle.moves.proofs.Sizes.{sizeS, sizeB}
 use Rattle.moves.specs.Edges.{Frame, inThen, inElse, inDo, inLoop}
 use Rattle.moves.specs.Step.{again}
 use Rattle.moves.proofs.Linked.{Rec, setL, skipL, callL, uncallL, Prog, onto}

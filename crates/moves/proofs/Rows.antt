@@ -6,7 +6,7 @@ use lib.ListN.{length, getD, length-append}
 use native.Mathlib.Omega.{arith}
 use Rattle.expr.specs.Tree.{Expr}
 use Rattle.order.specs.Trees.{Stmt, setS, skipS, callS, uncallS, ifS, fromS, Block, one, _then_, Tree, procedures}
-use Rattle.moves.specs.Labels.{sizeS, sizeB}
+use Rattle.moves.proofs.Sizes.{sizeS, sizeB}
 use Rattle.moves.specs.Edges.{Frame, inThen, inElse, inDo, inLoop}
 use Rattle.moves.specs.Places.{calls}
 use Rattle.moves.proofs.Linked.{Con, Rec, nameL, beginL, endL, setL, skipL, ifL, elseL, fiL, fromL, loopL, untilL, callL, uncallL, Prog, onto}

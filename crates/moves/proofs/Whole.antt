@@ -5,7 +5,7 @@ use mathlib.Core.List.{List, [], _∷_}
 use lib.ListN.{length, getD, length-append, List·getD-eq-default}
 use native.Mathlib.Omega.{arith}
 use Rattle.order.specs.Trees.{Block, Tree, procedures}
-use Rattle.moves.specs.Labels.{sizeB}
+use Rattle.moves.proofs.Sizes.{sizeB}
 use Rattle.moves.specs.Stores.{holds}
 use Rattle.moves.proofs.Linked.{nameL, beginL, endL, Prog}
 use Rattle.moves.proofs.Cuts.{Undoes, ProcOk, Local, Wf}

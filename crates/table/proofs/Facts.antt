@@ -8,7 +8,7 @@ use Rattle.records.specs.Records.{Record, names, begin, end, assign, if, else, 
 use Rattle.order.specs.Trees.{Stmt, setS, skipS, callS, uncallS, ifS, fromS, Block, one, _then_, Tree, procedures, recordsOf}
 use Rattle.program.specs.Says.{Accepts}
 use Rattle.program.proofs.CheckSays.{begins-tree}
-use Rattle.moves.specs.Labels.{sizeS, sizeB}
+use Rattle.moves.proofs.Sizes.{sizeS, sizeB}
 use Rattle.moves.specs.Edges.{Frame, inThen, inElse, inDo, inLoop}
 use Rattle.moves.proofs.Linked.{Prog, forget}
 use Rattle.moves.proofs.Cuts.{ProcOk, Wf}
