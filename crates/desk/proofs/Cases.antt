@@ -22,7 +22,7 @@ use Rattle.machine.specs.Answers.{done, numbered, RunSays, StartSays, started, 
 use Rattle.machine.specs.Answers as machine
 use Rattle.machine.specs.declared.Told.{Told}
 use Rattle.machine.specs.declared.Told.the-variants.{Done, Refused}
-use Rattle.machine.proofs.Giving.{gives-done, numbers-one, not-none, of-refused, run-gives}
+use Rattle.machine.proofs.Giving.{gives-done, not-none, of-refused, done-gives, refused-gives, run-gives}
 use Rattle.saved.specs.Answers.{ReadSays, found, SaveSays}
 use Rattle.saved.specs.Answers as saved
 use Rattle.saved.proofs.Giving.{read-some, save-gives}
@@ -34,16 +34,16 @@ use Rattle.desk.specs.Desk as desk
 use Rattle.desk.specs.Desk.{BeginSays, begun, upward, OpenSays, opened, SavingSays, CheckSays, said, numbers, made, storeOf, laid, program, size, way, MoveSays, over, within}
 
 pub numbers-done : (t : Told) (n : ℕ) → t ≡ Done → Numbered t n (record { reason = 0; label = 0; count = n })
-numbers-done t n e m k g = let z = numbers-one (gives-done e) g in ap₂ (λ (m k : ℕ). numbers m k n) (z .0) (z .1)
+numbers-done t n e m k g = let z = done-gives e g in ap₂ (λ (m k : ℕ). numbers m k n) (z .0) (z .1)
 
 pub numbers-refused : (t : Told) (n m k : ℕ) → t ≡ Refused m k → Numbered t n (record { reason = m; label = k; count = n })
-numbers-refused t n m k e m′ k′ g = let z = numbers-one (of-refused g e .1) g in ap₂ (λ (m k : ℕ). numbers m k n) (z .0) (z .1)
+numbers-refused t n m k e m′ k′ g = let z = refused-gives e g in ap₂ (λ (m k : ℕ). numbers m k n) (z .0) (z .1)
 
 module _ (s : Session) (t : Told) (q : Held) (n : ℕ) (zs : List ℤ) where
   pub leaves-refused : (m k : ℕ) → t ≡ Refused m k → (o : Outcome) → o ≡ made (numbers m k 0) s → Leaves s t q n zs o
   leaves-refused m k e o h = record {
     found = λ g. let z = of-refused g e in not-none (z .0) (z .1) g;
-    kept = λ m′ k′ l g. let z = numbers-one (of-refused g e .1) g in h ∙ ap₂ (λ (m k : ℕ). made (numbers m k 0) s) (z .0) (z .1);
+    kept = λ m′ k′ l g. let z = refused-gives e g in h ∙ ap₂ (λ (m k : ℕ). made (numbers m k 0) s) (z .0) (z .1);
   }
 
   pub leaves-read : t ≡ Done → (a : Answer) → Numbered Done 0 a → Leaves s t q n zs (record { session = record { place = q; count = n; cells = zs }; answer = a })

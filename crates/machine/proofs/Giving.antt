@@ -74,6 +74,12 @@ of-refused {a} {n} {n′} {k} {k′} g e = go (case g)
     go (inl x) = never (sym (x .0) ∙ e)
     go (inr x) = let z : Refused n k ≡ Refused n′ k′ = sym e ∙ x .1 in let y : n ≡ n′ = cc in let h : 0 < n = omega (arith, y, x .0) in (h, gives-refused h e)
 
+pub done-gives : {a : Told} {n k : ℕ} → a ≡ Done → Gives a n k → (0 ≡ n) × (0 ≡ k)
+done-gives e g = numbers-one (gives-done e) g
+
+pub refused-gives : {a : Told} {n n′ k k′ : ℕ} → a ≡ Refused n k → Gives a n′ k′ → (n ≡ n′) × (k ≡ k′)
+refused-gives e g = numbers-one (of-refused g e .1) g
+
 -- ---- no refusal has the number 0
 pub before-some : {f : List ℕ} {q : Held} {σ : Store} {n k : ℕ} → Before f q σ n k → 0 < n
 before-some {f} (program s) = fault-some f s

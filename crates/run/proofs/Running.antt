@@ -3,7 +3,7 @@
 --     zeros     the first of many zeros are zeros
 --     reports   the machine's answers, printed, are what `run` prints
 use Prim.Native.Nat.{ℕ, zero, suc, _≤_}
-use mathlib.Core.Path.{_≡_, refl, sym, ap, ap₂, _∙_, subst}
+use mathlib.Core.Path.{_≡_, refl, sym, ap, _∙_, subst}
 use mathlib.Core.List.{List, _∷_}
 use native.Mathlib.Omega.{arith}
 use lib.IntN.{ℤ, pos}
@@ -20,16 +20,18 @@ use Rattle.program.proofs.Few.{cells-few}
 use Rattle.moves.specs.Places.{down}
 use Rattle.moves.specs.Stores.{Store}
 use Rattle.moves.specs.Step.{start}
-use Rattle.moves.specs.Runs.{run as running, Stop, made, because, stopNumber}
+use Rattle.moves.specs.Runs.{run as running, stopNumber}
 use Rattle.moves.specs.Runs as runs
 use Rattle.moves.proofs.Theorems.{start-fits}
 use Rattle.machine.specs.declared.Told.{Told}
 use Rattle.machine.specs.declared.Told.the-variants.{Done}
-use Rattle.machine.specs.Answers.{RunSays, ran, StartSays, started, toldOf}
+use Rattle.machine.specs.Answers.{Gives, done, RunSays, ran, StartSays, started}
+use Rattle.machine.specs.Whole.{toldBy}
+use Rattle.machine.proofs.Giving.{by-gives}
 use Rattle.machine.proofs.OneAnswer.{run-one, start-one}
 use Rattle.print.specs.Lines.{putAll, afterAll, refusedLine}
 use Rattle.print.proofs.Rows.{within}
-use Rattle.run.specs.Report.{noughts, length-noughts, reportLines, ranLines, Prints, Reports, Counted, reasonOf}
+use Rattle.run.specs.Report.{noughts, length-noughts, reportLines, ranLines, Prints, Reports, Counted, Numbered}
 use Rattle.run.specs.Report as report
 
 first-zeros : (n m : ℕ) → n ≤ m → take n (replicate m (pos 0)) ≡ replicate n (pos 0)
@@ -41,19 +43,15 @@ pub zeros : (n m : ℕ) → n ≤ m → take n (noughts m) ≡ noughts n
 unfolding noughts
 zeros n m h = first-zeros n m h
 
-reason-is : (s : Stop) → reasonOf (toldOf s) ≡ stopNumber s
-reason-is made = refl
-reason-is (because r) = refl
-
 -- what is printed of a run's answer
-abbrev said : Told → ℕ → Held → Store → List (List ℕ)
-said told steps q σ = reportLines steps (reasonOf told) (q .a) (q .b) (q .direction) σ
+abbrev said : ℕ → ℕ → Held → Store → List (List ℕ)
+said reason steps q σ = reportLines steps reason (q .a) (q .b) (q .direction) σ
 
 on-zeros : {f : List ℕ} {t : Tree} {n : ℕ} → Accepts f t → n ≡ cells t → Prints f (ranLines (running t 1000000 (start t down) (noughts n)))
 on-zeros A e = rw e (report.ran A)
 
 is-start : {f : List ℕ} {t : Tree} → Accepts f t → StartSays f down Done (held (start t down))
-is-start A = started A refl refl
+is-start A = started A done refl
 
 module _ (f : List ℕ) (B : AllBytes f) (n : ℕ) (C : Counted f n) where
   tree : TreeOf f (C .0) (C .1) n
@@ -63,18 +61,19 @@ module _ (f : List ℕ) (B : AllBytes f) (n : ℕ) (C : Counted f n) where
   few = omega (arith, tree .cells-are′, cells-few (tree .accepts))
 
   pub reports :
-      (b c : List ℕ) (r : ℕ) (σ₀ : Store) (told₀ : Told) (q : Held) (told : Told) (steps : ℕ) (q′ : Held) (σ′ : Store) → σ₀ ≡ noughts n → StartSays f down told₀ q
-      → RunSays running f q σ₀ 1000000 told steps q′ σ′ → r ≡ afterAll b 0 (said told steps q′ σ′) → c ≡ putAll b 0 (said told steps q′ σ′) → Reports f b c r
-  reports b c r σ₀ told₀ q told steps q′ σ′ e₀ s u er ec =
+      (b c : List ℕ) (r : ℕ) (σ₀ : Store) (told₀ : Told) (q : Held) (told : Told) (steps : ℕ) (q′ : Held) (σ′ : Store) (reason : ℕ) → σ₀ ≡ noughts n → StartSays f down told₀ q
+      → RunSays running f q σ₀ 1000000 told steps q′ σ′ → Numbered told reason → r ≡ afterAll b 0 (said reason steps q′ σ′) → c ≡ putAll b 0 (said reason steps q′ σ′) → Reports f b c r
+  reports b c r σ₀ told₀ q told steps q′ σ′ reason e₀ s u w er ec =
       let t = tree .tree in
       let A = tree .accepts in
       let σ = noughts n in
       let x = running t 1000000 (start t down) σ in
       let e : q ≡ held (start t down) = start-one B s (is-start A) .1 in
-      let y : RunSays running f q σ 1000000 (toldOf (x .stop)) (x .steps) (held (x .place)) (x .store) =
-      ran (record { accepts = A; sized = length-noughts n ∙ tree .cells-are′; holds = e; fits = start-fits A down }) refl refl refl refl in
+      let y : RunSays running f q σ 1000000 (toldBy (stopNumber (x .stop))) (x .steps) (held (x .place)) (x .store) =
+      ran (record { accepts = A; sized = length-noughts n ∙ tree .cells-are′; holds = e; fits = start-fits A down }) (by-gives refl) refl refl refl in
       let z = run-one B running 1000000 (rw e₀ at u) y in
-      let l : said told steps q′ σ′ ≡ ranLines x = rw (z .0, z .1, z .2, z .3, reason-is (x .stop)) in
+      let g : Gives told (stopNumber (x .stop)) 0 = subst (λ (a : Told). Gives a (stopNumber (x .stop)) 0) (sym (z .0)) (by-gives refl) in
+      let l : said reason steps q′ σ′ ≡ ranLines x = rw (w _ _ g, z .1, z .2, z .3) in
       record {
         lines = ranLines x;
         prints = on-zeros A (tree .cells-are′);

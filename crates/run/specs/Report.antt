@@ -11,7 +11,7 @@ use Rattle.moves.specs.Places.{down}
 use Rattle.moves.specs.Step.{start}
 use Rattle.moves.specs.Runs.{Ran, stopNumber, run}
 use Rattle.machine.specs.declared.Told.{Told}
-use Rattle.machine.specs.declared.Told.the-variants.{Done, Refused}
+use Rattle.machine.specs.Answers.{Gives}
 use Rattle.print.specs.Lines.{putAll, afterAll, refusedLine, stepsLine, atLine, cellLines}
 
 -- So many zeros, under a name that stays shut.
@@ -51,7 +51,6 @@ Counted f cells = (r : ℕ) × (p : ℕ) × Says f (counts r p cells)
 abbrev pub Zeroed : List ℕ → List ℤ → Type 0
 Zeroed f σ = (n : ℕ) × (σ ≡ noughts n) × Counted f n
 
--- the number of the reason, 0 where there is none
-abbrev pub reasonOf : Told → ℕ
-reasonOf Done = 0
-reasonOf (Refused n k) = n
+-- the number that an answer gives
+abbrev pub Numbered : Told → ℕ → Type 0
+Numbered told r = (n k : ℕ) → Gives told n k → r ≡ n

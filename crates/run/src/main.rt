@@ -2,7 +2,7 @@
 ghost use mathlib.Core.Path.{_≡_};
 ghost use lib.ListN.{length};
 ghost use Rattle.print.specs.Lines.{putAll, afterAll};
-ghost use Rattle.run.specs.Report.{noughts, reportLines, Reports, Counted, Zeroed, reasonOf};
+ghost use Rattle.run.specs.Report.{noughts, reportLines, Reports, Counted, Zeroed, Numbered};
 use files::Got;
 use libc::STDIN_FILENO;
 use machine::Told;
@@ -29,7 +29,7 @@ fn zeros() -> [i32; CELLS]
 }
 
 fn reason(told: Told) -> u8
-    ensures { λ r. ⌜ r ≡ reasonOf told ⌝ }
+    ensures { λ r. ⌜ Numbered told r ⌝ }
 {
     match told {
         Told::Done => 0,

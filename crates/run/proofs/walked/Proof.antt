@@ -13,7 +13,7 @@ returns c =
     let u = m .before .before .before .before in
     let a = u .before .before .before in
     let s = a .before .before .before in
-    reports (now (s .args .file)) (λ i. omega (arith, a .before .before .shared-slice-known .given i)) (s .pre .0) (s .pre .2) (now (s .args .text)) (p .put-report .last .0) (p .put-report .result) (now (s .args .store)) (a .start .result .told) (a .start .result .place) (u .run .result .told) (u .run .result .steps) (u .run .result .place) _ (s .pre .1) (a .start .ensures) (u .run .ensures) (rw (m .reason .ensures) at (p .put-report .ensures .0)) (rw (m .reason .ensures) at (p .put-report .ensures .1))
+    reports (now (s .args .file)) (λ i. omega (arith, a .before .before .shared-slice-known .given i)) (s .pre .0) (s .pre .2) (now (s .args .text)) (p .put-report .last .0) (p .put-report .result) (now (s .args .store)) (a .start .result .told) (a .start .result .place) (u .run .result .told) (u .run .result .steps) (u .run .result .place) _ (m .reason .result) (s .pre .1) (a .start .ensures) (u .run .ensures) (m .reason .ensures) (p .put-report .ensures .0) (p .put-report .ensures .1)
 
 pub walked-spec : {M : Type 1} → statement M
 walked-spec =
