@@ -74,6 +74,25 @@ pub other-is : (d : Dir) → otherOf (dirNumber d) ≡ dirNumber (opp d)
 other-is down = refl
 other-is up = refl
 
+-- ---- the gates of a procedure
+module _ {f : List ℕ} {t : Tree} (A : Accepts f t) {tab : List ℕ} (T : Tabled t f tab) where
+  few-procs : length (procedures t) ≤ 64
+  unfolding recordsOf begins kind
+  few-procs = omega (arith, procs-begin (procedures t), few-begins 0 0 (recordsOf t) (omega arith) (A .rows .fine))
+
+  pub gate-is : (q : ℕ) (d : Dir) → q < length (procedures t) → gateOf tab q (dirNumber d) ≡ gateL (prog t) q d
+  unfolding lookIn
+  gate-is q down h = rw (lt-ltb (9216 + q) 9344 (omega (arith, few-procs))) (T .firsts q h)
+  gate-is q up h = rw (lt-ltb (9280 + q) 9344 (omega (arith, few-procs))) (T .lasts q h)
+
+  pub gate-side : (q : ℕ) (d : Dir) → ProcOk (prog t) q → side (prog t .at (gateL (prog t) q d)) (gateL (prog t) q d) (opp d) ≡ gateL (prog t) q d
+  gate-side q down k = rw (k .at-first)
+  gate-side q up k = rw (k .at-last)
+
+  pub gate-encl : (q : ℕ) (d : Dir) → ProcOk (prog t) q → prog t .encl (gap (gateL (prog t) q d) d) ≡ []
+  gate-encl q down k = k .en-first
+  gate-encl q up k = k .en-last
+
 module _ {f : List ℕ} {t : Tree} (A : Accepts f t) {tab : List ℕ} (T : Tabled t f tab) {bytes arr : List ℕ} (G : Agrees t f bytes arr) where
   abbrev P : Prog
   P = prog t
@@ -83,23 +102,6 @@ module _ {f : List ℕ} {t : Tree} (A : Accepts f t) {tab : List ℕ} (T : Table
 
   abbrev Does : (g : ℕ) (d : Dir) (cs : List ℕ) (b : ℕ) → Store → Answer (Cut × Store) → Type 0
   Does g d cs b σ a = Fate P (frames g cs) σ (ruleOf bytes tab arr (spotAt (frames g cs) d cs b) σ) a
-
-  few-procs : length (procedures t) ≤ 64
-  unfolding recordsOf begins kind
-  few-procs = omega (arith, procs-begin (procedures t), few-begins 0 0 (recordsOf t) (omega arith) (A .rows .fine))
-
-  pub gate-is : (q : ℕ) (d : Dir) → q < length (procedures t) → gateOf tab q (dirNumber d) ≡ gateL P q d
-  unfolding lookIn
-  gate-is q down h = rw (lt-ltb (9216 + q) 9344 (omega (arith, few-procs))) (T .firsts q h)
-  gate-is q up h = rw (lt-ltb (9280 + q) 9344 (omega (arith, few-procs))) (T .lasts q h)
-
-  pub gate-side : (q : ℕ) (d : Dir) → ProcOk P q → side (P .at (gateL P q d)) (gateL P q d) (opp d) ≡ gateL P q d
-  gate-side q down k = rw (k .at-first)
-  gate-side q up k = rw (k .at-last)
-
-  pub gate-encl : (q : ℕ) (d : Dir) → ProcOk P q → P .encl (gap (gateL P q d) d) ≡ []
-  gate-encl q down k = k .en-first
-  gate-encl q up k = k .en-last
 
   encl-met : (g : ℕ) (d : Dir) → SimpleOk P (met g d) → P .encl (met g d) ≡ P .encl g
   encl-met g down k = k .en
@@ -143,11 +145,11 @@ module _ {f : List ℕ} {t : Tree} (A : Accepts f t) {tab : List ℕ} (T : Table
         go true e =
             let h : length cs < 64 = ltb-true _ _ e in
             let F′ = good h in
-            let new : called (met g d) ∷ frames g cs ≡ P .encl (gap (gateL P q d′) d′) ++ stack P (met g d ∷ cs) = rw (gate-encl q d′ k, encl-met g d o) in
+            let new : called (met g d) ∷ frames g cs ≡ P .encl (gap (gateL P q d′) d′) ++ stack P (met g d ∷ cs) = rw (gate-encl A T q d′ k, encl-met g d o) in
             let r : length (frames g cs) < 1104 = omega (arith, room A (leave (gateL P q d′) d′ (met g d ∷ cs)) F′, ap length new) in
             rw (lt-leb 64 (length cs) h) (
               refl,
-              lands A T (frames g cs) (deep h) (gateL P q d′) d′ (met g d ∷ cs) F′ (gate-pos t P q k d′) refl (gate-is q d′ hq ∙ sym (gate-side q d′ k)) (ap (alongOf tab (dirNumber d′)) (gate-is q d′ hq))
+              lands A T (frames g cs) (deep h) (gateL P q d′) d′ (met g d ∷ cs) F′ (gate-pos t P q k d′) refl (gate-is A T q d′ hq ∙ sym (gate-side A T q d′ k)) (ap (alongOf tab (dirNumber d′)) (gate-is A T q d′ hq))
                   (subst (λ H. Acts A T (frames g cs) (deep h) H) new (acts-push A T (frames g cs) r (called (met g d)) (deep h) refl refl refl refl)),
               add-one (length cs),
               refl,

@@ -34,7 +34,6 @@ use Rattle.machine.specs.Whole.{numberOf, startOf}
 use Rattle.machine.specs.Answers.{direction, StartSays, refused, started}
 use Rattle.machine.proofs.Labels.{along-is}
 use Rattle.machine.proofs.Calls.{gate-is, gate-side, gate-encl}
-use Rattle.machine.proofs.Copied.{agrees-bare}
 
 module _ (f : List ℕ) (t : Tree) (A : Accepts f t) (d : Dir) where
   abbrev P : Prog
@@ -42,14 +41,14 @@ module _ (f : List ℕ) (t : Tree) (A : Accepts f t) (d : Dir) where
 
   start-held : movedOf blankOf (dirNumber d) (gateOf (tableOf f) 0 (dirNumber d)) (alongOf (tableOf f) (dirNumber d) (gateOf (tableOf f) 0 (dirNumber d))) ≡ held (start t d)
   start-held =
-      let w = accepted-wf A in let T = tabled f t A in let G = agrees-bare f t A in
+      let w = accepted-wf A in let T = tabled f t A in
       let k = w .main-ok in
       let y = gateL P 0 d in
       let F = fit-gate t P 0 k [] in-main (omega arith) d in
-      let e = gate-is A T G 0 d (omega arith) in
-      let a : gateOf (tableOf f) 0 (dirNumber d) ≡ tip P (gap y d) (opp d) = e ∙ (sym (gate-side A T G 0 d k) ∙ ap (λ x. side (P .at x) x (opp d)) (sym (met-gap y d (gate-pos t P 0 k d)))) in
+      let e = gate-is A T 0 d (omega arith) in
+      let a : gateOf (tableOf f) 0 (dirNumber d) ≡ tip P (gap y d) (opp d) = e ∙ (sym (gate-side A T 0 d k) ∙ ap (λ x. side (P .at x) x (opp d)) (sym (met-gap y d (gate-pos t P 0 k d)))) in
       let b : alongOf (tableOf f) (dirNumber d) (gateOf (tableOf f) 0 (dirNumber d)) ≡ tip P (gap y d) d = ap (alongOf (tableOf f) (dirNumber d)) e ∙ along-is A T y d [] F (gate-pos t P 0 k d) in
-      let n : [] ≡ P .encl (gap y d) ++ stack P [] = ap (λ (H : List Frame). H ++ []) (sym (gate-encl A T G 0 d k)) in
+      let n : [] ≡ P .encl (gap y d) ++ stack P [] = ap (λ (H : List Frame). H ++ []) (sym (gate-encl A T 0 d k)) in
       let z : movedOf blankOf (dirNumber d) (gateOf (tableOf f) 0 (dirNumber d)) (alongOf (tableOf f) (dirNumber d) (gateOf (tableOf f) 0 (dirNumber d))) ≡ held (view P (leave y d [])) =
       λ i. record {
         direction = dirNumber d;
