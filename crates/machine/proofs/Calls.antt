@@ -73,6 +73,7 @@ pub other-is : (d : Dir) → otherOf (dirNumber d) ≡ dirNumber (opp d)
 other-is down = refl
 other-is up = refl
 
+-- ---- the gates of a procedure
 module _ {f : List ℕ} {t : Tree} (A : Accepts f t) {tab : List ℕ} (T : Tabled t f tab) where
   few-procs : length (procedures t) ≤ 64
   unfolding recordsOf begins kind
