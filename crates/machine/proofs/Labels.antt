@@ -2,14 +2,14 @@
 use Prim.Native.Nat.{ℕ, zero, suc, _+_, _^_, _≤_, _<_, pred}
 use mathlib.Core.Path.{_≡_, refl, sym, ap, _∙_, subst}
 use mathlib.Core.Bool.{Bool, true, false, cond}
-use mathlib.Core.List.{List, [], _∷_, _++_, append-assoc, append-nil}
+use mathlib.Core.List.{List, [], _∷_, _++_, append-assoc}
 use lib.ListN.{length, getD, drop, length-append, length-drop, List·getD-eq-default}
 use lib.Seq.{drop-append-le}
 use lib.Dec.{ltb}
 use native.Mathlib.Omega.{arith}
 use borrow.Author.Tests.{lt-ltb, ltb-false, ltb-true}
 use Rattle.place.specs.Slots.{dirNumber}
-use Rattle.records.specs.Records.{Record, names, skip, kind, body, encodeRecord, Formed, FineFrom}
+use Rattle.records.specs.Records.{Record, names, skip, kind, body, encodeRecord, bytesOf, Formed, FineFrom}
 use Rattle.order.specs.Trees.{Tree, recordsOf}
 use Rattle.program.specs.Says.{Accepts}
 use Rattle.records.specs.Faults.{word}
@@ -110,21 +110,6 @@ module _ {f : List ℕ} {t : Tree} (A : Accepts f t) where
     pub offset-is : (x : ℕ) → x < count → lookIn tab x ≡ getD (offsets f) x 0
     unfolding lookIn
     offset-is x h = rw (lt-ltb x 9344 (omega (arith, small))) (T .offset x h)
-
-    -- the file's own bytes at a record of the table
-    own-record : (x : ℕ) (r : Record) → x < count → at t x ≡ r → recordAs (kind r) f (lookIn tab x) ≡ r
-    own-record x r h e =
-        subst (λ r. recordAs (kind r) f (lookIn tab x) ≡ r) e
-        (ap (recordAs (kind (at t x)) f) (offset-is x h) ∙ read-at [] f (sym (append-nil f)) (omega (arith, A .rows .short)) x h)
-
-    -- the procedure that a call names: what `procAt` is at its label
-    pub call-names : (x q : ℕ) → x < count → at t x ≡ call q → word f (lookIn tab x + 4) ≡ q
-    unfolding recordAs kind
-    call-names x q h e = let z = own-record x (call q) h e in cc
-
-    pub uncall-names : (x q : ℕ) → x < count → at t x ≡ uncall q → word f (lookIn tab x + 4) ≡ q
-    unfolding recordAs kind
-    uncall-names x q h e = let z = own-record x (uncall q) h e in cc
 
     pub along-is : (y : ℕ) (d : Dir) (cs : List ℕ) → Sits P (leave y d cs) → 0 < y → alongOf tab (dirNumber d) y ≡ tip P (gap y d) d
     unfolding alongOf

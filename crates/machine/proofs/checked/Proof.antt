@@ -16,11 +16,5 @@ checked-spec =
     (λ c. let s = c .before .before in checked-place _ _ _ _ _ _ (s .before .before .before .if1 .left) _ (s .before .before .table .ensures) _ (s .fits2 .ensures) _ (c .before .if2 .taken) (c .stays2 .ensures))
     (λ c κs. search needs)
     (λ c κs. search needs)
-    (λ c κs. search needs)
-    (λ c κs. search needs)
-    (λ c κs. search needs)
-    (λ c κs. search needs)
     (λ c. search needs)
-    (λ c.
-    let g = c .before .before .before in let k = g .before .before .before .before .before .before .before .before .before .before in let a = k .before .before .before in let s = a .before .before in
-    checked-went _ _ _ _ _ _ (s .before .before .before .if1 .left) _ (s .before .before .table .ensures) _ (s .fits2 .ensures) (a .before .if2 .left) _ (a .arrays .ensures) _ (k .calls .ensures) _ _ (g .go .ensures) _ (c .answer .ensures)))
+    (λ c. search (needs, checked-went)))

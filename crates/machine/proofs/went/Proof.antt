@@ -1,0 +1,26 @@
+-- `machine::went` meets its contract: `WholeCases` joins the copies, the gates and the loop. Assumes nothing.
+use borrow.Author.Needs.{needs}
+use Rattle.machine.proofs.WholeCases.{copied-goes}
+use Rattle.machine.proofs.went.Statement.{statement}
+use Rattle.machine.proofs.went.Tie as tie
+
+pub went-spec : {M : Type 1} → statement M
+went-spec =
+    tie.close
+    (tie.spec
+    (λ c κs. search needs)
+    (λ c κs. search needs)
+    (λ c. search needs)
+    (λ c κs. search needs)
+    (λ c. search needs)
+    (λ c κs. search needs)
+    (λ c κs. search needs)
+    (λ c κs. search needs)
+    (λ c κs. search needs)
+    (λ c κs. search needs)
+    (λ c. search needs)
+    (λ c.
+    let r = c .before in let g = r .before .before .before in let w = g .before .before .before .before .before .before in let k = w .before .before in let u = k .before .before .before in
+    let d = u .before .before in let a = d .before .before in
+    copied-goes _ _ _ _ _ _ _ _ _ _ _ _ _ _ _
+    (a .before .padded .ensures) (a .arrays .ensures) (d .gates .ensures) (u .gates2 .ensures) (k .calls .ensures) (w .widened .ensures) (g .go .ensures) (r .restored .ensures)))
