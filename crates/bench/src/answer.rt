@@ -5,7 +5,7 @@ ghost use lib.ListN.{length};
 ghost use Rattle.machine.specs.Answers.{direction};
 ghost use Rattle.print.specs.Lines.{refusedLine};
 ghost use Rattle.bench.specs.Room.{Room};
-ghost use Rattle.bench.specs.Answers.{Text, Checks, Says, Saves, Keeps, Starts, Does, Answers, movedLines, shownLines, reasonOf};
+ghost use Rattle.bench.specs.Answers.{Text, Checks, Says, Keeps, Starts, Does, Answers, Numbered, Moves, shownLines};
 ghost use Rattle.bench.specs.declared.command.Deed.the-variants.{Set};
 use crate::command::Deed;
 use machine::Ran;
@@ -97,7 +97,7 @@ pub fn started(file: &[u8], up: bool, store: &[i32], buffer: &mut [u8], text: &m
 }
 
 fn reason(told: Told) -> u8
-    ensures { λ r. ⌜ r ≡ reasonOf told ⌝ }
+    ensures { λ r. ⌜ Numbered told r ⌝ }
 {
     match told {
         Told::Done => 0,
@@ -108,7 +108,7 @@ fn reason(told: Told) -> u8
 // `step` and `back`, after the moves
 fn moved(file: &[u8], went: Ran, store: &[i32], buffer: &mut [u8], text: &mut [u8]) -> Answer
     ensures { λ r. ⌜ Room r (length (now (buffer .entry))) (length (now (text .entry))) ⌝ }
-    ensures { λ r. ⌜ Saves (now (file .entry)) (went .place) (now (store .entry)) (now (buffer .entry)) (now (text .entry)) (movedLines (went .told) (went .steps) (went .place)) r (now (buffer .exit)) (now (text .exit)) ⌝ }
+    ensures { λ r. ⌜ Moves (now (file .entry)) (went .told) (went .steps) (went .place) (now (store .entry)) (now (buffer .entry)) (now (text .entry)) r (now (buffer .exit)) (now (text .exit)) ⌝ }
 {
     let told = went.told;
     let place = went.place;

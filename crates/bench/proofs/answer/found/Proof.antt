@@ -1,6 +1,7 @@
 use mir.Syntax.{w32}
 use mir.Facts.{toZ-ofZ}
 use Rattle.bench.specs.Answers as answers
+use Rattle.machine.proofs.Giving.{run-gives}
 use Rattle.bench.proofs.Answering.{deed}
 use borrow.Author.Needs.{needs}
 use Rattle.bench.proofs.answer.found.Statement.{statement}
@@ -10,10 +11,14 @@ enum-told : tie.Need-enum-told
 enum-told c = search needs
 
 returns : tie.Need-returns
-returns c = (c .before .before .before .before .moved .ensures .0, deed (c .before .before .before .before .before .before .before .before .before .before .before .before .deed .given .1) (answers.Does.steps (c .before .before .before .before .before .before .before .before .before .run .ensures) (c .before .before .before .before .moved .ensures .1)))
+returns c =
+    let m = c .before .before .before .before in let u = m .before .before .before .before .before in let g = run-gives (u .run .ensures) in
+    (m .moved .ensures .0, deed (u .before .before .before .deed .given .1) (answers.Does.steps (u .run .ensures) (g .2) (m .moved .ensures .1 (g .0) (g .1) (g .2))))
 
 returns-2 : tie.Need-returns-2
-returns-2 c = (c .before .before .before .before .moved2 .ensures .0, deed (c .before .before .before .before .before .before .before .before .before .before .before .before .deed2 .given .1) (answers.Does.backs (c .before .before .before .before .before .before .before .before .before .run-back .ensures) (c .before .before .before .before .moved2 .ensures .1)))
+returns-2 c =
+    let m = c .before .before .before .before in let u = m .before .before .before .before .before in let g = run-gives (u .run-back .ensures) in
+    (m .moved2 .ensures .0, deed (u .before .before .before .deed2 .given .1) (answers.Does.backs (u .run-back .ensures) (g .2) (m .moved2 .ensures .1 (g .0) (g .1) (g .2))))
 
 returns-3 : tie.Need-returns-3
 returns-3 c =

@@ -15,7 +15,7 @@ saved-requires c κs =
 returns : tie.Need-returns
 returns c =
     let q = c .before .before .before .before .before .before .before .before .before .before .before .before .before in
-    (search needs, saves (c .before .before .before .before .saved .result) (c .before .before .before .before .saved .ensures .1) (joined _ _ _ _ _ _ _ _ (rw (q .before .reason .ensures) at (q .put-steps .ensures)) (c .before .before .before .before .before .before .before .before .before .put-at .ensures)))
+    (search needs, λ n k g. saves (c .before .before .before .before .saved .result) (c .before .before .before .before .saved .ensures .1) (joined _ _ _ _ _ _ _ _ (rw (q .before .reason .ensures n k g) at (q .put-steps .ensures)) (c .before .before .before .before .before .before .before .before .before .put-at .ensures)))
 
 pub moved-spec : {M : Type 1} → statement M
 moved-spec =
