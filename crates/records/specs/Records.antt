@@ -31,13 +31,14 @@ abbrev pub Every : (ℕ → Type 0) → List ℕ → Type 0
 Every P [] = Unit {0}
 Every P (n ∷ ns) = P n × Every P ns
 
-abbrev pub encodeTarget : Target → List ℕ
-encodeTarget (cell x) = 0 ∷ bytes16 x
-encodeTarget (entry a i) = 1 ∷ bytes16 a ++ encode i
-
 -- "Depth at most 16"
 abbrev pub Plain : Expr → Type 0
 Plain e = Valid e × (depth e ≤ 16)
+
+-- A target's bytes; that they hold its numbers; its part in 7 and in 8 (below), where scalar 0 and array 0 are two names.
+abbrev pub encodeTarget : Target → List ℕ
+encodeTarget (cell x) = 0 ∷ bytes16 x
+encodeTarget (entry a i) = 1 ∷ bytes16 a ++ encode i
 
 abbrev pub PlainTarget : Target → Type 0
 PlainTarget (cell x) = x < 2 ^ 16
@@ -52,9 +53,9 @@ ownTarget (cell x) e = anyName (λ y. eqb y x) (λ n. false) e
 ownTarget (entry a i) e = anyName (λ x. false) (λ n. eqb n a) i || anyName (λ x. false) (λ n. eqb n a) e
 
 -- What is said of a record: its kind and body;
--- formed: the body is right for its kind, with operators that are there, numbers that the bytes hold, expressions at most 16 deep;
--- there: not 7, "scalar, array or procedure number not there, or a call of 0", of v scalars, a arrays and p procedures;
--- free: not 8, "the assigned scalar or array occurs in the SET's own expressions".
+-- `formed`: the body is right for its kind, with operators that are there, numbers that the bytes hold, expressions at most 16 deep;
+-- `there`, of v scalars, a arrays and p procedures: it is not 7, "scalar, array or procedure number not there, or a call of 0";
+-- `free`: it is not 8, "the assigned scalar or array occurs in the SET's own expressions".
 pub record Row : Type 1 where
   pub kind : ℕ
   pub body : List ℕ
@@ -62,7 +63,7 @@ pub record Row : Type 1 where
   pub there : ℕ → ℕ → ℕ → Bool
   pub free : Bool
 
--- Bodies of three forms: nothing, an expression, the number of a procedure.
+-- The kinds whose body is nothing, an expression, or the number of a procedure.
 abbrev pub bare : ℕ → Row
 bare k = record { kind = k; body = []; formed = Unit {0}; there = λ v a p. true; free = true }
 
@@ -74,7 +75,8 @@ calling k q = record { kind = k; body = bytes16 q; formed = q < 2 ^ 16; there = 
 
 -- NAMES: "u16 V scalars, u16 A arrays, A lengths u16". SET: "u8 operator, u8 target, u16 number, for an array its index expression, then the expression".
 abbrev pub row : Record → Row
-row (names v ls) = record { kind = 1; body = flatMap bytes16 (v ∷ length ls ∷ ls); formed = Every (_< 2 ^ 16) (v ∷ length ls ∷ ls); there = λ s a p. true; free = true }
+row (names v ls) =
+    record { kind = 1; body = flatMap bytes16 (v ∷ length ls ∷ ls); formed = Every (_< 2 ^ 16) (v ∷ length ls ∷ ls); there = λ v a p. true; free = true }
 row begin = bare 2
 row end = bare 3
 row (assign o t e) = record {
