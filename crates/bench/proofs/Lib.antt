@@ -1,3 +1,4 @@
 -- The laws of `bench`.
 pub mod Rooms
+pub mod Numbers
 pub mod Answering

@@ -32,7 +32,7 @@ fn refused(number: u8, label: usize, buffer: &[u8], text: &mut [u8]) -> Answer
 }
 
 // `check`
-pub fn checked(file: &[u8], text: &mut [u8]) -> usize
+pub(crate) fn checked(file: &[u8], text: &mut [u8]) -> usize
     ensures { λ r. ⌜ r ≤ length (now (text .entry)) ⌝ }
     ensures { λ r. ⌜ Checks (now (file .entry)) (now (text .entry)) (now (text .exit)) r ⌝ }
 {
@@ -45,7 +45,7 @@ pub fn checked(file: &[u8], text: &mut [u8]) -> usize
 }
 
 // How many cells the file's programs have, 0 for one that is refused.
-pub fn cells_of(file: &[u8]) -> usize
+pub(crate) fn cells_of(file: &[u8]) -> usize
     ensures { λ r. ⌜ r ≤ 2048 ⌝ }
 {
     match program::check(file) {
@@ -80,7 +80,13 @@ fn saved(
 }
 
 // `start`, on a store of zeros
-pub fn started(file: &[u8], up: bool, store: &[i32], buffer: &mut [u8], text: &mut [u8]) -> Answer
+pub(crate) fn started(
+    file: &[u8],
+    up: bool,
+    store: &[i32],
+    buffer: &mut [u8],
+    text: &mut [u8],
+) -> Answer
     ensures { λ r. ⌜ Room r (length (now (buffer .entry))) (length (now (text .entry))) ⌝ }
     ensures { λ r. ⌜ Starts (now (file .entry)) (direction up) (now (store .entry)) (now (buffer .entry)) (now (text .entry)) r (now (buffer .exit)) (now (text .exit)) ⌝ }
 {
@@ -185,7 +191,7 @@ fn found(
 }
 
 // `step`, `back`, `set` and `show`
-pub fn answered(
+pub(crate) fn answered(
     deed: Deed,
     file: &[u8],
     session: &[u8],

@@ -136,7 +136,7 @@ fn named(name: &[u8], count: usize, fourth: &[u8], fifth: &[u8]) -> Command {
 }
 
 // A word that is longer than 32 bytes is read as empty: no command, direction or number is so long.
-pub fn asked() -> Command {
+pub(crate) fn asked() -> Command {
     let mut name = [0u8; 32];
     let mut fourth = [0u8; 32];
     let mut fifth = [0u8; 32];

@@ -1,4 +1,9 @@
 // The numbers of a command line: 1 to 10 digits, a minus before them only in a value, nothing else.
+ghost use mathlib.Core.Path.{_≡_};
+ghost use mathlib.Core.Bool.{cond};
+ghost use lib.Dec.{eqb};
+ghost use Rattle.bench.specs.Numbers.{naturalOf, narrowed, integerOf};
+
 pub enum Natural {
     Is(u32),
     Not,
@@ -9,7 +14,9 @@ pub enum Integer {
     Not,
 }
 
-fn narrow(v: i64) -> Integer {
+fn narrow(v: i64) -> Integer
+    ensures { λ r. ⌜ r ≡ narrowed v ⌝ }
+{
     if v < -2147483648 {
         return Integer::Not;
     }
@@ -20,7 +27,9 @@ fn narrow(v: i64) -> Integer {
 }
 
 // Digits up to 4294967295.
-pub fn read_natural(word: &[u8]) -> Natural {
+pub(crate) fn read_natural(word: &[u8]) -> Natural
+    ensures { λ r. ⌜ r ≡ naturalOf (now (word .entry)) ⌝ }
+{
     let n = words::read_digits(word, 0);
     if word.len() == 0 {
         return Natural::Not;
@@ -38,12 +47,16 @@ pub fn read_natural(word: &[u8]) -> Natural {
 }
 
 // The length that digits with this beginning may have.
-fn longest(first: u8) -> usize {
+fn longest(first: u8) -> usize
+    ensures { λ r. ⌜ r ≡ cond (eqb first 45) 11 10 ⌝ }
+{
     if first == b'-' { 11 } else { 10 }
 }
 
 // An optional minus and digits, within i32.
-pub fn read_integer(word: &[u8]) -> Integer {
+pub(crate) fn read_integer(word: &[u8]) -> Integer
+    ensures { λ r. ⌜ r ≡ integerOf (now (word .entry)) ⌝ }
+{
     if word.len() == 0 {
         return Integer::Not;
     }

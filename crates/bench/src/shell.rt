@@ -166,7 +166,7 @@ fn with_file(command: Command, name: &[u8]) {
     }
 }
 
-pub fn perform(command: Command) {
+pub(crate) fn perform(command: Command) {
     match command {
         Command::Wrong => {
             usage();

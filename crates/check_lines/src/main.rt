@@ -1,8 +1,7 @@
 // Reads program files, one a line in hexadecimal, and writes `accepted R P C` or `refused N R` for each: the check held to the second program's answers.
 ghost use mathlib.Core.Path.{_≡_};
-ghost use Prim.Native.Nat.{_≤_};
 ghost use lib.ListN.{length};
-ghost use Rattle.check_lines.specs.Zeros.{zeros};
+ghost use Rattle.words.specs.Zeros.{Filled};
 use libc::STDIN_FILENO;
 use libc::STDOUT_FILENO;
 use program::Checked;
@@ -13,15 +12,15 @@ const ROOM: usize = 33000;
 // More bytes than all the cases have.
 const ALL: usize = 4194304;
 
-// Zeros, made apart so that no goal carries them.
+// Zeros, made apart so that no goal carries them; of the many, none counts them.
 fn empty_file() -> [u8; ROOM]
-    ensures { λ r. ⌜ r ≡ zeros 33000 ⌝ }
+    ensures { λ r. ⌜ 33000 ≡ length r ⌝ }
 {
     [0; ROOM]
 }
 
 fn empty_input() -> [u8; ALL]
-    ensures { λ r. ⌜ r ≡ zeros 4194304 ⌝ }
+    ensures { λ r. ⌜ Filled 0 4194304 r ⌝ }
 {
     [0; ALL]
 }
@@ -32,27 +31,6 @@ fn say(word: &[u8]) {
 
 fn number(n: usize) {
     io::print_decimal(STDOUT_FILENO, n as u64);
-}
-
-// The bytes whose digits stand from `at` on, into `file`; how many they are.
-fn decode(s: &[u8], at: usize, file: &mut [u8]) -> usize
-    ensures { λ r. ⌜ r ≤ length (now (file .exit)) ⌝ }
-{
-    let mut n: usize = 0;
-    let mut i = at;
-    while n < file.len() {
-        if i >= s.len() {
-            return n;
-        }
-        let b = words::hex_byte(s, i);
-        if b > 255 {
-            return n;
-        }
-        file[n] = b as u8;
-        n += 1;
-        i += 2;
-    }
-    n
 }
 
 fn tell(answer: Checked) {
@@ -75,28 +53,13 @@ fn tell(answer: Checked) {
     say(b"\n");
 }
 
-// The end of the line at `at`.
-fn line_end(s: &[u8], at: usize) -> usize
-    requires { ⌜ at ≤ length (now s) ⌝ }
-    ensures { λ r. ⌜ (at ≤ r) × (r ≤ length (now (s .entry))) ⌝ }
-{
-    let mut i = at;
-    while i < s.len() {
-        if s[i] == b'\n' {
-            return i;
-        }
-        i += 1;
-    }
-    i
-}
-
 fn answers(s: &[u8]) {
     let mut file = empty_file();
     let mut at: usize = 0;
     while at < s.len() {
-        let n = decode(s, at, &mut file);
+        let n = words::hex_bytes(s, at, &mut file);
         tell(program::check(&file[..n]));
-        at = line_end(s, at) + 1;
+        at = words::next_line(s, at);
     }
 }
 

@@ -14,7 +14,7 @@ fn put_number(error: i32) {
 }
 
 // The kit has the C library's words for the last error only, and only as a line of its own: so here are those that files meet.
-pub fn tell(error: i32) {
+pub(crate) fn tell(error: i32) {
     if !of_name(error) {
         if !of_kind(error) {
             if !of_device(error) {

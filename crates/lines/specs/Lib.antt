@@ -1,2 +1,2 @@
 -- The definitions of `lines`.
-pub mod Zeros
+pub mod Line

@@ -1,11 +1,10 @@
 // The lines that read and save session files: `o` and `v`.
 ghost use mathlib.Core.Path.{_≡_};
-ghost use Rattle.lines.specs.Zeros.{zeros};
+ghost use lib.ListN.{length};
 use crate::line::byte;
 use crate::line::field;
 use crate::line::first;
 use crate::line::past;
-use crate::set::decode;
 use crate::set::within;
 use crate::tell::tell_read;
 use crate::tell::tell_saved;
@@ -16,15 +15,15 @@ const ROOM: usize = 70000;
 
 // Zeros, made apart so that no goal carries them.
 fn empty_bytes() -> [u8; ROOM]
-    ensures { λ r. ⌜ r ≡ zeros 70000 ⌝ }
+    ensures { λ r. ⌜ 70000 ≡ length r ⌝ }
 {
     [0; ROOM]
 }
 
 // `o HEX`: the place that is read, answered too.
-pub fn opened(s: &[u8], at: usize, file: &[u8], store: &mut [i32]) -> Place {
+pub(crate) fn opened(s: &[u8], at: usize, file: &[u8], store: &mut [i32]) -> Place {
     let mut bytes = empty_bytes();
-    let n = decode(s, first(s, at), &mut bytes);
+    let n = words::hex_bytes(s, first(s, at), &mut bytes);
     let r = saved::read(file, &bytes[..n], store);
     let told = r.told;
     let place = r.place;
@@ -50,7 +49,7 @@ fn put(buffer: &mut [u8], fill: u8, file: &[u8], store: &[i32], place: Place) {
 }
 
 // `v LEN FILL`: a buffer of so many bytes.
-pub fn kept(s: &[u8], at: usize, file: &[u8], store: &[i32], place: Place) {
+pub(crate) fn kept(s: &[u8], at: usize, file: &[u8], store: &[i32], place: Place) {
     let len = field(s, past(s, at));
     let fill = field(s, len.next);
     let mut bytes = empty_bytes();

@@ -1,11 +1,10 @@
 // The streams of the second program: command lines that set and move one program, place and store, and an answer line for each that moves, reads or saves.
 ghost use mathlib.Core.Path.{_≡_};
-ghost use Rattle.lines.specs.Zeros.{zeros, noughts};
+ghost use lib.ListN.{length};
+ghost use Rattle.lines.specs.Line.{lineCount};
 use crate::files::kept;
 use crate::files::opened;
-use crate::line::command;
 use crate::line::field;
-use crate::line::next_line;
 use crate::line::past;
 use crate::line::steps;
 use crate::set::placed;
@@ -31,13 +30,13 @@ const CELLS: usize = 2200;
 
 // Zeros, made apart so that no goal carries them.
 fn empty_file() -> [u8; ROOM]
-    ensures { λ r. ⌜ r ≡ zeros 33000 ⌝ }
+    ensures { λ r. ⌜ 33000 ≡ length r ⌝ }
 {
     [0; ROOM]
 }
 
 fn empty_store() -> [i32; CELLS]
-    ensures { λ r. ⌜ r ≡ noughts 2200 ⌝ }
+    ensures { λ r. ⌜ 2200 ≡ length r ⌝ }
 {
     [0; CELLS]
 }
@@ -76,7 +75,7 @@ fn ran(r: Ran, store: &[i32]) -> Place {
 
 // The place after the line at `at`, which is answered where the line moves, reads or saves.
 fn moved(s: &[u8], at: usize, file: &[u8], store: &mut [i32], place: Place) -> Place {
-    let c = command(s, at);
+    let c = words::byte_at(s, at);
     if c == b's' {
         return started(s, at, file, store);
     }
@@ -105,19 +104,24 @@ fn moved(s: &[u8], at: usize, file: &[u8], store: &mut [i32], place: Place) -> P
     place
 }
 
-// Answers the lines of a stream. Each is offered to what sets and to what moves; only the one that it names takes it.
-pub fn answers(s: &[u8]) {
+// Answers the lines of a stream; how many there are. Each is offered to what sets and to what moves; only the one that it names takes it.
+pub fn answers(s: &[u8]) -> usize
+    ensures { λ r. ⌜ r ≡ lineCount (now (s .entry)) ⌝ }
+{
     let mut file = empty_file();
     let mut store = empty_store();
     let mut place = Place::blank();
     let mut size: usize = 0;
     let mut cells: usize = 0;
+    let mut count: usize = 0;
     let mut at: usize = 0;
     while at < s.len() {
         size = programmed(s, at, &mut file, size);
         cells = stored(s, at, &mut store, cells);
         place = slotted(s, at, placed(s, at, place));
         place = moved(s, at, &file[..size], &mut store[..cells], place);
-        at = next_line(s, at);
+        count += 1;
+        at = words::next_line(s, at);
     }
+    count
 }

@@ -2,8 +2,6 @@
 ghost use Prim.Native.Nat.{_≤_};
 ghost use lib.ListN.{length};
 use crate::line::byte;
-use crate::line::cell;
-use crate::line::command;
 use crate::line::field;
 use crate::line::first;
 use crate::line::half;
@@ -11,36 +9,15 @@ use crate::line::more;
 use crate::line::past;
 use place::Place;
 
-// The bytes whose digits stand from `at` on, into `file`; how many they are.
-pub fn decode(s: &[u8], at: usize, file: &mut [u8]) -> usize
-    ensures { λ r. ⌜ r ≤ length (now (file .exit)) ⌝ }
-{
-    let mut n: usize = 0;
-    let mut i = at;
-    while n < file.len() {
-        if i >= s.len() {
-            return n;
-        }
-        let b = words::hex_byte(s, i);
-        if b > 255 {
-            return n;
-        }
-        file[n] = b as u8;
-        n += 1;
-        i += 2;
-    }
-    n
-}
-
 // How many bytes the program has after the line at `at`.
-pub fn programmed(s: &[u8], at: usize, file: &mut [u8], size: usize) -> usize
+pub(crate) fn programmed(s: &[u8], at: usize, file: &mut [u8], size: usize) -> usize
     requires { ⌜ size ≤ length (now file) ⌝ }
     ensures { λ r. ⌜ r ≤ length (now (file .exit)) ⌝ }
 {
-    if command(s, at) != b'p' {
+    if words::byte_at(s, at) != b'p' {
         return size;
     }
-    decode(s, first(s, at), file)
+    words::hex_bytes(s, first(s, at), file)
 }
 
 // The cells that are listed from `at` on, into `store`; how many they are.
@@ -54,7 +31,7 @@ fn list(s: &[u8], at: usize, store: &mut [i32]) -> usize
             return n;
         }
         let v = words::read_signed(s, past(s, i));
-        store[n] = cell(v.value);
+        store[n] = words::nearest(v.value);
         n += 1;
         i = v.next;
     }
@@ -62,7 +39,7 @@ fn list(s: &[u8], at: usize, store: &mut [i32]) -> usize
 }
 
 // The least of a number and a length.
-pub fn within(v: u64, room: usize) -> usize
+pub(crate) fn within(v: u64, room: usize) -> usize
     ensures { λ r. ⌜ r ≤ room ⌝ }
 {
     if v < room as u64 { v as usize } else { room }
@@ -83,11 +60,11 @@ fn blank(s: &[u8], at: usize, store: &mut [i32]) -> usize
 }
 
 // How many cells the store has after the line at `at`.
-pub fn stored(s: &[u8], at: usize, store: &mut [i32], cells: usize) -> usize
+pub(crate) fn stored(s: &[u8], at: usize, store: &mut [i32], cells: usize) -> usize
     requires { ⌜ cells ≤ length (now store) ⌝ }
     ensures { λ r. ⌜ r ≤ length (now (store .exit)) ⌝ }
 {
-    let c = command(s, at);
+    let c = words::byte_at(s, at);
     if c == b'n' {
         return blank(s, at, store);
     }
@@ -98,7 +75,7 @@ pub fn stored(s: &[u8], at: usize, store: &mut [i32], cells: usize) -> usize
 }
 
 // How many slots are used where a place counts so many frames.
-pub fn used(count: usize) -> usize
+pub(crate) fn used(count: usize) -> usize
     ensures { λ r. ⌜ r ≤ 1104 ⌝ }
 {
     if count < 1104 { count } else { 1104 }
@@ -136,8 +113,8 @@ fn framed(s: &[u8], at: usize, count: usize) -> Place {
 }
 
 // The place after the line at `at`, where that is `l`.
-pub fn placed(s: &[u8], at: usize, place: Place) -> Place {
-    if command(s, at) != b'l' {
+pub(crate) fn placed(s: &[u8], at: usize, place: Place) -> Place {
+    if words::byte_at(s, at) != b'l' {
         return place;
     }
     let d = field(s, past(s, at));
@@ -149,8 +126,8 @@ pub fn placed(s: &[u8], at: usize, place: Place) -> Place {
 }
 
 // The place after the line at `at`, where that is `x`.
-pub fn slotted(s: &[u8], at: usize, place: Place) -> Place {
-    if command(s, at) != b'x' {
+pub(crate) fn slotted(s: &[u8], at: usize, place: Place) -> Place {
+    if words::byte_at(s, at) != b'x' {
         return place;
     }
     let i = field(s, past(s, at));

@@ -117,14 +117,14 @@ fn scene(place: Place, store: &[i32]) {
 }
 
 // Of a move: the steps made, the place and the store.
-pub fn tell_steps(told: Told, steps: u32, place: Place, store: &[i32]) {
+pub(crate) fn tell_steps(told: Told, steps: u32, place: Place, store: &[i32]) {
     reason(told);
     word(steps as u64);
     scene(place, store);
 }
 
 // Of a reading: the place and the store.
-pub fn tell_read(told: Told, place: Place, store: &[i32]) {
+pub(crate) fn tell_read(told: Told, place: Place, store: &[i32]) {
     reason(told);
     scene(place, store);
 }
@@ -143,7 +143,7 @@ fn bytes(buffer: &[u8]) {
 }
 
 // Of a save: the bytes written and the whole buffer.
-pub fn tell_saved(told: Told, written: usize, buffer: &[u8]) {
+pub(crate) fn tell_saved(told: Told, written: usize, buffer: &[u8]) {
     reason(told);
     word(written as u64);
     if buffer.len() > 0 {

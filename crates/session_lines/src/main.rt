@@ -1,14 +1,13 @@
 // The stream of sessions: reading and saving held to the second program's answers, between moves.
-ghost use mathlib.Core.Path.{_≡_};
-ghost use Rattle.lines.specs.Zeros.{zeros};
+ghost use Rattle.words.specs.Zeros.{Filled};
 use libc::STDIN_FILENO;
 
 // More bytes than all the cases have.
 const ALL: usize = 2097152;
 
-// Zeros, made apart so that no goal carries them.
+// Zeros, made apart so that no goal carries or counts them.
 fn empty_input() -> [u8; ALL]
-    ensures { λ r. ⌜ r ≡ zeros 2097152 ⌝ }
+    ensures { λ r. ⌜ Filled 0 2097152 r ⌝ }
 {
     [0; ALL]
 }

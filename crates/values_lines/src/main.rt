@@ -1,5 +1,5 @@
 // Reads lines `OP LEFT RIGHT` and writes `value V` or `zero` for each: the operators held to the second program's answers.
-ghost use Prim.Native.Nat.{_≤_, _<_};
+ghost use Prim.Native.Nat.{_≤_};
 ghost use lib.ListN.{length};
 use libc::STDIN_FILENO;
 use libc::STDOUT_FILENO;
@@ -13,23 +13,16 @@ fn operator(v: u64) -> u8 {
     if v < 16 { v as u8 } else { 15 }
 }
 
-// The nearest i32.
-fn cell(v: i64) -> i32 {
-    if v < -2147483648 {
-        return -2147483648;
-    }
-    if v > 2147483647 {
-        return 2147483647;
-    }
-    v as i32
-}
-
 // What the operator gives on the line at `at`.
 fn given(s: &[u8], at: usize) -> i64 {
     let op = words::read_digits(s, at);
     let left = words::read_signed(s, past(s, op.next));
     let right = words::read_signed(s, past(s, left.next));
-    values::apply(operator(op.value), cell(left.value), cell(right.value))
+    values::apply(
+        operator(op.value),
+        words::nearest(left.value),
+        words::nearest(right.value),
+    )
 }
 
 // The two ways of writing, with what the caller needs of them: the position stays within.
@@ -60,21 +53,6 @@ fn answer(out: &mut [u8], at: usize, v: i64) -> usize
     word(out, end, b"\n")
 }
 
-// The end of the line at `at`.
-fn line_end(s: &[u8], at: usize) -> usize
-    requires { ⌜ at < length (now s) ⌝ }
-    ensures { λ r. ⌜ (at ≤ r) × (r ≤ length (now (s .entry))) ⌝ }
-{
-    let mut i = at;
-    while i < s.len() {
-        if s[i] == b'\n' {
-            return i;
-        }
-        i += 1;
-    }
-    i
-}
-
 // All answer lines from the front of out on, and the position after them.
 fn answers(s: &[u8], out: &mut [u8]) -> usize
     ensures { λ r. ⌜ r ≤ length (now (out .exit)) ⌝ }
@@ -83,7 +61,7 @@ fn answers(s: &[u8], out: &mut [u8]) -> usize
     let mut end: usize = 0;
     while at < s.len() {
         end = answer(out, end, given(s, at));
-        at = line_end(s, at) + 1;
+        at = words::next_line(s, at);
     }
     end
 }

@@ -1,14 +1,13 @@
 // The stream of walks: the machine held to the second program's answers.
-ghost use mathlib.Core.Path.{_≡_};
-ghost use Rattle.lines.specs.Zeros.{zeros};
+ghost use Rattle.words.specs.Zeros.{Filled};
 use libc::STDIN_FILENO;
 
 // More bytes than all the cases have.
 const ALL: usize = 1048576;
 
-// Zeros, made apart so that no goal carries them.
+// Zeros, made apart so that no goal carries or counts them.
 fn empty_input() -> [u8; ALL]
-    ensures { λ r. ⌜ r ≡ zeros 1048576 ⌝ }
+    ensures { λ r. ⌜ Filled 0 1048576 r ⌝ }
 {
     [0; ALL]
 }

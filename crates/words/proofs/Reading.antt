@@ -11,7 +11,7 @@ use lib.IntN.{pos, negℤ, _-ℤ_, +ℤ-idl}
 use mir.Syntax.{w64}
 use mir.Val.{toZ, ofZ, SFits}
 use mir.Facts.{toZ-ofZ, toZ-pos, sfits-lit}
-use lib.ListN.{length, getD, drop, List·getD-eq-default}
+use lib.ListN.{length, getD, drop, List·getD-eq-default, drop-of-length-le}
 use lib.Seq.{drop-cons}
 use borrow.Author.Tests.{le-leb, lt-leb, lt-ltb, le-ltb, eq-eqb, ne-eqb}
 use Rattle.words.specs.Words.{isDigit, digitCount, digitValue, limit, signedNext, signedValue, hexDigit, hexPair, hexByte}
@@ -29,13 +29,6 @@ high b h = ap (λ (t : Bool). leb 48 b && t) (lt-leb b 57 h) ∙ and-false (leb 
 
 pub inside : (b : ℕ) → 48 ≤ b → b ≤ 57 → isDigit b ≡ true
 inside b h k = ap₂ _&&_ (le-leb 48 b h) (le-leb b 57 k)
-
--- ---- past the end there is nothing
-pub past-end : (s : List ℕ) (i : ℕ) → length s ≤ i → drop i s ≡ []
-past-end [] zero h = refl
-past-end [] (suc i) h = refl
-past-end (x ∷ s) zero h = absurd (omega arith)
-past-end (x ∷ s) (suc i) h = past-end s i (omega arith)
 
 -- the loop's state: what is read from `at` on is what is read from next on, after value
 abbrev pub Midway : List ℕ → ℕ → ℕ → ℕ → Type 0
@@ -58,8 +51,8 @@ stop-here s at value next h p m =
 
 pub stop-end : (s : List ℕ) (at value next : ℕ) → length s ≤ next → Midway s at value next → Done s at value next
 stop-end s at value next h m =
-    let n : digitCount (drop next s) ≡ 0 = ap digitCount (past-end s next h) in
-    (omega arith, sym (m .1 ∙ ap (digitValue value) (past-end s next h)))
+    let n : digitCount (drop next s) ≡ 0 = ap digitCount (drop-of-length-le s h) in
+    (omega arith, sym (m .1 ∙ ap (digitValue value) (drop-of-length-le s h)))
 
 pub one-more : (s : List ℕ) (at value next v : ℕ) → next < length s → 48 ≤ getD s next 0 → getD s next 0 ≤ 57
     → v ≡ min (10 * value + (getD s next 0 - 48)) limit → Midway s at value next → Midway s at v (next + 1)

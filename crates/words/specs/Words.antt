@@ -1,10 +1,12 @@
--- Numbers as text, in bytes: how they are written into a buffer, and what is read at a position.
-use Prim.Native.Nat.{ℕ, zero, suc, _+_, _-_, _*_, _/_, _%_, _^_, min}
+-- Numbers as text, in bytes: how they are written into a buffer, and what is read at a position; bytes in hexadecimal; lines.
+use Prim.Native.Nat.{ℕ, zero, suc, _+_, _-_, _*_, _/_, _%_, _^_, _≤_, min}
+use mathlib.Core.Path.{_≡_}
 use mathlib.Core.Bool.{Bool, cond, _&&_}
 use mathlib.Core.List.{List, [], _∷_, _++_}
 use lib.IntN.{ℤ, pos, negsuc, negℤ}
 use lib.Dec.{leb, ltb, eqb}
-use lib.ListN.{length, drop, getD}
+use lib.Signed.{ltZ}
+use lib.ListN.{length, take, drop, getD}
 use lib.Seq.{sets}
 
 -- ---- writing
@@ -78,3 +80,27 @@ hexPair h l = cond (ltb h 16 && ltb l 16) (16 * h + l) 256
 
 abbrev pub hexByte : List ℕ → ℕ → ℕ
 hexByte s at = hexPair (hexDigit (getD s at 0)) (hexDigit (getD s (at + 1) 0))
+
+-- The bytes whose digits stand from `at` on, n at most.
+unfoldable pub hexBytes : ℕ → List ℕ → ℕ → List ℕ
+hexBytes zero s at = []
+hexBytes (suc n) s at = cond (ltb (hexByte s at) 256) (hexByte s at ∷ hexBytes n s (at + 2)) []
+
+-- n bytes at the front of b: both parts, so that lending them asks no proof file of a caller.
+abbrev pub Counts : ℕ → List ℕ → Type 0
+Counts n b = (n ≤ length b) × (n ≡ length (take n b))
+
+-- The i32 that is nearest to z.
+abbrev pub nearest : ℤ → ℤ
+nearest z = cond (ltZ z (negsuc 2147483647)) (negsuc 2147483647) (cond (ltZ (pos 2147483647) z) (pos 2147483647) z)
+
+-- ---- lines
+
+-- How many bytes the first line of s has, its end (10) among them.
+unfoldable pub lineLength : List ℕ → ℕ
+lineLength [] = 0
+lineLength (b ∷ s) = suc (cond (eqb b 10) 0 (lineLength s))
+
+-- Where the line after that at `at` stands.
+abbrev pub nextLine : List ℕ → ℕ → ℕ
+nextLine s at = at + lineLength (drop at s)

@@ -1,11 +1,11 @@
-// Numbers as text: written into a lent buffer at a position, and read at one. What the programs print and read with.
+// Numbers as text: written into a lent buffer at a position, and read at one; bytes in hexadecimal; lines. What the programs print and read with.
 ghost use mathlib.Core.Path.{_≡_};
 ghost use Prim.Native.Nat.{ℕ, _+_, _*_, _-_, _≤_, _<_, min};
 ghost use mathlib.Core.List.{List};
 ghost use lib.Dec.{leb};
 ghost use lib.ListN.{length, getD, drop, set};
 ghost use lib.Seq.{sets};
-ghost use Rattle.words.specs.Words.{put, after, lastDigit, decimalBy, decimal, signedDecimal, limit, digitCount, digitValue, signedNext, signedValue, hexDigit, hexByte};
+ghost use Rattle.words.specs.Words.{put, after, lastDigit, decimalBy, decimal, signedDecimal, limit, digitCount, digitValue, signedNext, signedValue, hexDigit, hexByte, hexBytes, Counts, nearest, nextLine};
 
 // The largest number that is read, `limit`.
 const LIMIT: u64 = 1000000000000000000;
@@ -143,7 +143,7 @@ pub fn read_digits(s: &[u8], at: usize) -> Number
 }
 
 // The byte at i, 0 past the end.
-fn byte_at(s: &[u8], i: usize) -> u8
+pub fn byte_at(s: &[u8], i: usize) -> u8
     ensures { λ r. ⌜ r ≡ getD (now (s .entry)) i 0 ⌝ }
 {
     if i < s.len() { s[i] } else { 0 }
@@ -203,4 +203,54 @@ pub fn hex_byte(s: &[u8], at: usize) -> usize
         return 256;
     }
     16 * high + low
+}
+
+// Puts the bytes whose digits stand from `at` on at the front of buf, as many as it holds; how many they are.
+pub fn hex_bytes(s: &[u8], at: usize, buf: &mut [u8]) -> usize
+    ensures { λ r. ⌜ r ≡ length (hexBytes (length (now (buf .entry))) (now (s .entry)) at) ⌝ }
+    ensures { λ _. ⌜ now (buf .exit) ≡ sets (now (buf .entry)) 0 (hexBytes (length (now (buf .entry))) (now (s .entry)) at) ⌝ }
+    ensures { λ r. ⌜ Counts r (now (buf .exit)) ⌝ }
+{
+    let mut n: usize = 0;
+    let mut i = at;
+    while n < buf.len() {
+        if i >= s.len() {
+            return n;
+        }
+        let b = hex_byte(s, i);
+        if b > 255 {
+            return n;
+        }
+        buf[n] = b as u8;
+        n += 1;
+        i += 2;
+    }
+    n
+}
+
+// The nearest i32.
+pub fn nearest(v: i64) -> i32
+    ensures { λ r. ⌜ r ≡ nearest v ⌝ }
+{
+    if v < -2147483648 {
+        return -2147483648;
+    }
+    if v > 2147483647 {
+        return 2147483647;
+    }
+    v as i32
+}
+
+// Where the line after that at `at` stands.
+pub fn next_line(s: &[u8], at: usize) -> usize
+    ensures { λ r. ⌜ r ≡ nextLine (now (s .entry)) at ⌝ }
+{
+    let mut i = at;
+    while i < s.len() {
+        if s[i] == 10 {
+            return i + 1;
+        }
+        i += 1;
+    }
+    i
 }

@@ -1,11 +1,9 @@
 -- `check_lines::answers` is safe and ends: each turn goes past a line. Assumes nothing.
-use mathlib.Core.Path.{_≡_, sym, ap, _∙_}
-use Prim.Native.Nat.{_≤_, _-_}
-use native.Mathlib.Omega.{arith}
+use mathlib.Core.Path.{_≡_}
+use Prim.Native.Nat.{_-_}
 use lib.ListN.{length}
-use lib.Seq.{length-take-le}
-use Rattle.check_lines.specs.Zeros.{length-zeros}
 use borrow.Author.Needs.{needs}
+use Rattle.words.proofs.Lines.{falls}
 use Rattle.check_lines.proofs.answers.Statement.{statement}
 use Rattle.check_lines.proofs.answers.Tie as tie
 
@@ -22,15 +20,14 @@ answers-spec =
     Inv-loop
     μ-loop
     (λ c κs. search needs)
-    (λ c. sym (ap length (c .empty-file .ensures) ∙ length-zeros 33000))
+    (λ c. search needs)
     (λ c. search needs)
     (λ c κs. search needs)
     (λ c. search needs)
-    (λ c. sym (length-take-le _ _ (c .before .before .decode .ensures)))
+    (λ c. search needs)
     (λ c κs. search needs)
     (λ c κs. search needs)
     (λ c κs. search needs)
-    (λ c. omega arith)
-    (λ c. omega arith)
+    (λ c. search (needs, falls))
     (λ c. search needs)
     (λ c. search needs))

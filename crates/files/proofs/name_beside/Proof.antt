@@ -1,31 +1,22 @@
 -- `files::name_beside` meets its contract: a piece that does not fit is left out. Assumes nothing.
-use mathlib.Core.Path.{_≡_, refl}
-use mathlib.Core.Bool.{Bool, true, false, cond}
+use mathlib.Core.Path.{_≡_}
 use mathlib.Core.List.{List, [], _∷_}
-use Prim.Native.Nat.{ℕ, _+_, _≤_}
+use Prim.Native.Nat.{ℕ, _≤_}
 use native.Mathlib.Omega.{arith}
-use lib.Dec.{leb}
 use lib.ListN.{length}
 use denote.Ref.{now}
 use borrow.Author.Needs.{needs}
-use borrow.Author.Tests.{leb-true}
 use Rattle.words.specs.Words.{after, decimal}
+use Rattle.words.proofs.Writing.{after-within}
 use Rattle.files.proofs.name_beside.Statement.{statement}
 use Rattle.files.proofs.name_beside.Tie as tie
-
-within : (b w : List ℕ) (at : ℕ) → at ≤ length b → after b at w ≤ length b
-within b w at h = go (leb (at + length w) (length b)) refl
-  where
-    go : (t : Bool) → leb (at + length w) (length b) ≡ t → cond t (at + length w) at ≤ length b
-    go true e = leb-true (at + length w) (length b) e
-    go false e = h
 
 least : (n : ℕ) → 0 ≤ n
 least n = omega arith
 
 -- a position within the buffer before a piece, and after it
 step : (b c w : List ℕ) (at r : ℕ) → at ≤ length b → r ≡ after b at w → length c ≡ length b → r ≤ length c
-step b c w at r h e k = rw (k, e) (within b w at h)
+step b c w at r h e k = rw (k, e) (after-within b w at h)
 
 returns : tie.Need-returns
 returns c =

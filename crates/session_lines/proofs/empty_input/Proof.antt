@@ -1,12 +1,13 @@
 -- `session_lines::empty_input` meets its contract. Assumes nothing.
 use mathlib.Core.Path.{refl}
-use Rattle.lines.specs.Zeros.{zeros}
+use Rattle.words.specs.Zeros.{copies}
+use Rattle.words.proofs.Zeros.{filled}
 use Rattle.session_lines.proofs.empty_input.Statement.{statement}
 use Rattle.session_lines.proofs.empty_input.Tie as tie
 
 returns : tie.Need-returns
-unfolding zeros
-returns c = refl
+unfolding copies
+returns c = filled 0 2097152 _ refl
 
 pub empty-input-spec : {M : Type 1} → statement M
 empty-input-spec = tie.close (tie.spec returns)

@@ -3,6 +3,7 @@ use mathlib.Core.Path.{_≡_}
 use Prim.Native.Nat.{_≤_, _-_}
 use lib.ListN.{length}
 use borrow.Author.Needs.{needs}
+use Rattle.words.proofs.Lines.{falls}
 use Rattle.values_lines.proofs.answers.Statement.{statement}
 use Rattle.values_lines.proofs.answers.Tie as tie
 
@@ -22,8 +23,7 @@ answers-spec =
     (λ c κs. search needs)
     (λ c κs. search needs)
     (λ c κs. search needs)
-    (λ c. search needs)
-    (λ c. search needs)
+    (λ c. search (needs, falls))
     (λ c. search needs)
     (λ c. search needs)
     (λ c. search needs))

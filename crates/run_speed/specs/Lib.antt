@@ -1,2 +1,0 @@
--- The definitions of `run_speed`.
-pub mod Zeros
