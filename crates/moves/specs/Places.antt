@@ -1,4 +1,4 @@
--- Document 01, 'Labels, places, moves': places, and which of them fit a program.
+-- Document 01, 'Labels, places, moves': what is found among the edges, and which places fit a program.
 use Prim.Native.Nat.{ℕ, suc, _≤_}
 use mathlib.Core.List.{List, [], _∷_, _++_, List·Memᴰ}
 use mathlib.Core.Logic.{_⊎_}
@@ -19,7 +19,7 @@ near e d = going d (e .a) (e .b)
 abbrev pub far : Edge → Dir → ℕ
 far e d = near e (opp d)
 
--- The first edge of which this holds.
+-- The first edge of which this holds. (Where there is none, one from 0 to 0.)
 unfoldable pub find : (Edge → Bool) → List Edge → Edge
 find f [] = edge 0 [] 0 0
 find f (e ∷ es) = cond (f e) e (find f es)
@@ -28,9 +28,13 @@ find f (e ∷ es) = cond (f e) e (find f es)
 abbrev pub top : List Frame → Frame
 top fs = getD fs 0 (called 0)
 
--- The label of the construct that is entered from x in direction d: that of the innermost frame of the edges that leave x.
+-- The label of the IF or FROM whose construct is entered by leaving x in direction d: every edge there has it innermost.
 abbrev pub head : Tree → ℕ → Dir → ℕ
 head t x d = frameLabel (top (find (λ e. eqb (near e d) x) (edges t) .within))
+
+-- "its BEGIN going down, its END going up": where an edge of procedure q comes from a record of kind 2, or 3.
+abbrev pub gate : Tree → ℕ → Dir → ℕ
+gate t q d = near (find (λ e. eqb (e .proc) q && eqb (kind (at t (near e d))) (going d 2 3)) (edges t)) d
 
 -- How many of the frames are calls.
 abbrev pub calls : List Frame → ℕ
@@ -58,7 +62,3 @@ pub record Fits (t : Tree) (p : Place) : Type 0 where
   pub outer : Outer t (edge .proc) outside
   -- "and at most 64 frames are calls"
   pub few : calls (p .frames) ≤ 64
-
--- The label that a procedure is entered by in a direction, and left by in the opposite one: its BEGIN, its END.
-abbrev pub gate : Tree → ℕ → Dir → ℕ
-gate t q d = near (find (λ e. eqb (e .proc) q && eqb (kind (at t (near e d))) (going d 2 3)) (edges t)) d

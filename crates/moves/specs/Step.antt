@@ -35,33 +35,33 @@ module _ (t : Tree) (p : Place) (σ : Store) where
   abbrev pub past : List Frame → Place
   past fs = after t (p .b) (p .d) fs
 
-  -- "the expression true takes s1 and pushes frame 0, false takes s2 and pushes 1"
+  -- "IF down and FI up choose: the expression true takes s1 and pushes frame 0, false takes s2 and pushes 1."
   abbrev pub chooses : Expr → Answer (Place × Store)
   chooses e = let h = head t (p .b) (p .d) in bind (holds t σ e) (λ v. ok (past (cond v (inThen h) (inElse h) ∷ p .frames), σ))
 
-  -- "value and frame must agree; the frame is popped"
+  -- "FI down and IF up close: value and frame must agree; the frame is popped." (Frame 0 agrees with true.)
   abbrev pub closes : Expr → Answer (Place × Store)
   closes e = bind (holds t σ e) (λ v. must (Bool·beq v (eqb (frameKind (top (p .frames))) 0)) (past (tail (p .frames)), σ))
 
-  -- "coming from outside the value must be true, push 2 and enter s1; coming from s2 it must be false, frame 3 becomes 2"
+  -- "FROM down and UNTIL up open: coming from outside the value must be true, push 2 and enter s1; coming from s2 it must be false, frame 3 becomes 2."
   abbrev pub opens : Expr → Answer (Place × Store)
   opens e = let h = head t (p .b) (p .d) in bind (holds t σ e)
       (λ v. cond (again h (p .frames)) (must (not v) (past (inDo h ∷ tail (p .frames)), σ)) (must v (past (inDo h ∷ p .frames), σ)))
 
-  -- "true leaves the loop and pops; false turns 2 into 3 and enters s2"
+  -- "UNTIL down and FROM up test: true leaves the loop and pops; false turns 2 into 3 and enters s2."
   abbrev pub tests : Expr → Answer (Place × Store)
   tests e = bind (holds t σ e) (λ v. ok (past (cond v (tail (p .frames)) (inLoop (frameLabel (top (p .frames))) ∷ tail (p .frames))), σ))
 
-  -- "a becomes its BEGIN going down, its END going up. It pushes 4." 34: "a 65th call"
+  -- "CALL enters the procedure in direction d, UNCALL in the opposite one: a becomes its BEGIN going down, its END going up. It pushes 4." 34: "a 65th call"
   abbrev pub enters : ℕ → Dir → Answer (Place × Store)
   enters q d = cond (ltb (calls (p .frames)) 64) (ok (after t (gate t q d) d (called (p .b) ∷ p .frames), σ)) (no tooDeep)
 
-  -- "pop the call; direction is d for a CALL, opposite for an UNCALL; a becomes the calling label"
+  -- "END down and BEGIN up return: pop the call; direction is d for a CALL, opposite for an UNCALL; a becomes the calling label." 30: "no call left"
   abbrev pub returns : List Frame → Answer (Place × Store)
   returns [] = no atEnd
   returns (f ∷ F) = ok (after t (frameLabel f) (cond (eqb (kind (at t (frameLabel f))) 12) (opp (p .d)) (p .d)) F, σ)
 
-  -- What executing a record is. No place that fits comes to a record that leaves all as it is.
+  -- What executing a record is. "SKIP only moves." No place that fits comes to a record that leaves all as it is.
   unfoldable pub executes : Record → Answer (Place × Store)
   executes (names v ls) = ok (p, σ)
   executes begin = going (p .d) (ok (p, σ)) (returns (p .frames))
