@@ -71,7 +71,17 @@ fn went(
     let ups = decide::gates::gates(&bytes, table, records, 1);
     let calls = walk::calls(&place.kinds, place.count);
     let mut cells = copies::widened(store);
-    let went = walk::go(&bytes, table, &downs, &ups, &arrays, &mut cells, place, calls, n);
+    let went = walk::go(
+        &bytes,
+        table,
+        &downs,
+        &ups,
+        &arrays,
+        &mut cells,
+        place,
+        calls,
+        n,
+    );
     copies::restored(&cells, store);
     went
 }
