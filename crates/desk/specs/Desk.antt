@@ -7,7 +7,7 @@ use lib.Dec.{eqb}
 use lib.IntN.{pos}
 use lib.ListN.{length, take, drop, replicate}
 use Rattle.place.specs.declared.Place.{Place as Held}
-use Rattle.place.specs.Slots.{held}
+use Rattle.place.specs.Held.{held}
 use Rattle.order.specs.Trees.{Tree, cells}
 use Rattle.program.specs.Says.{Given, fault, Accepts, Says}
 use Rattle.moves.specs.Places.{Place}

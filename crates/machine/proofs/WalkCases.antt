@@ -14,7 +14,7 @@ use Rattle.decide.specs.declared.Spot.{Spot}
 use Rattle.decide.specs.declared.Move.{Move}
 use Rattle.decide.specs.Decide.{Seen, seen, Ruled, Rules}
 use Rattle.machine.specs.declared.walk.Went.{Went}
-use Rattle.machine.specs.Walk.{putIn, callsIn, callsOf, spotOf, afterOf, Gone, gone, goOf, Goes}
+use Rattle.machine.specs.Walk.{putIn, callsIn, callsOf, spotBy, spotOf, afterOf, Gone, gone, goOf, Goes}
 
 pub put-near : (s : List ℕ) (i v : ℕ) → i < 1104 → set s i v ≡ putIn s i v
 unfolding putIn
@@ -50,11 +50,11 @@ pub ruleset counts = (calls-near, calls-far)
 
 -- ---- where a step stands
 abbrev pub standing : Held → ℕ → Spot
-standing h c = record { direction = h .direction; b = h .b; calls = c; count = h .count }
+standing h c = spotBy (h .direction) (h .b) c (h .count)
 
-stands : (h : Held) (c : ℕ) → seen (standing h c) (h .kinds) (h .labels) ≡ spotOf h c
+stands : (h : Held) (c : ℕ) (s : Spot) → s ≡ standing h c → seen s (h .kinds) (h .labels) ≡ spotOf h c
 unfolding seen
-stands h c = refl
+stands h c s e = ap (λ (s : Spot). seen s (h .kinds) (h .labels)) e
 
 -- ---- a turn, by any rule
 module _ (R : Seen → Store → Ruled) (n : ℕ) (q₀ : Held) (c₀ : ℕ) (σ₀ : Store) (made : ℕ) (h : Held) (c : ℕ) (σ : Store)
@@ -66,15 +66,15 @@ module _ (R : Seen → Store → Ruled) (n : ℕ) (q₀ : Held) (c₀ : ℕ) (σ
   unfolding goOf
   goes-done r k e = let z : n - made ≡ 0 = omega arith in goes r σ (inv ∙ rw (z, e))
 
-  module _ (m : Move) (τ : Store) (rules : Rules (R (seen (standing h c) (h .kinds) (h .labels)) σ) m τ) (more : made < n) where
+  module _ (s : Spot) (ss : s ≡ standing h c) (m : Move) (τ : Store) (rules : Rules (R (seen s (h .kinds) (h .labels)) σ) m τ) (more : made < n) where
     left : n - made ≡ suc (n - (made + 1))
     left = omega arith
 
     move-is : R (spotOf h c) σ .move ≡ m
-    move-is = sym (rules .made ∙ ap (λ (x : Seen). R x σ .move) (stands h c))
+    move-is = sym (rules .made ∙ ap (λ (x : Seen). R x σ .move) (stands h c s ss))
 
     store-is : R (spotOf h c) σ .store ≡ τ
-    store-is = sym (rules .left ∙ ap (λ (x : Seen). R x σ .store) (stands h c))
+    store-is = sym (rules .left ∙ ap (λ (x : Seen). R x σ .store) (stands h c s ss))
 
     pub goes-refused : (r : Went) → (m .reason ≡ 0 → ⊥) → r ≡ record { reason = m .reason; steps = made; place = h } → Goes (goOf R n q₀ c₀ σ₀ 0) r τ
     unfolding goOf

@@ -5,7 +5,7 @@ use mathlib.Core.Path.{_≡_}
 use mathlib.Core.Bool.{Bool, true, false}
 use lib.ListN.{length}
 use Rattle.place.specs.declared.Place.{Place as Held}
-use Rattle.place.specs.Slots.{held}
+use Rattle.place.specs.Held.{held}
 use Rattle.place.specs.Methods.{blankOf}
 use Rattle.order.specs.Trees.{Tree, cells}
 use Rattle.program.specs.Says.{fault, Accepts, Says}

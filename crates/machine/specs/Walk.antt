@@ -8,6 +8,7 @@ use lib.Dec.{ltb, leb, eqb}
 use Rattle.place.specs.declared.Place.{Place as Held}
 use Rattle.place.specs.Methods.{topAt}
 use Rattle.moves.specs.Stores.{Store}
+use Rattle.decide.specs.declared.Spot.{Spot}
 use Rattle.decide.specs.declared.Move.{Move}
 use Rattle.decide.specs.Decide.{Seen, Ruled}
 use Rattle.machine.specs.declared.walk.Went.{Went}
@@ -21,6 +22,9 @@ callsIn s (suc n) = cond (eqb (getD s n 0) 4) (suc (callsIn s n)) (callsIn s n)
 
 abbrev pub callsOf : List ℕ → ℕ → ℕ
 callsOf s n = cond (leb n 1104) (callsIn s n) 0
+
+abbrev pub spotBy : ℕ → ℕ → ℕ → ℕ → Spot
+spotBy d b c n = record { direction = d; b = b; calls = c; count = n }
 
 abbrev pub spotIn : ℕ → ℕ → ℕ → ℕ → List ℕ → List ℕ → Seen
 spotIn d b c n ks ls = record { direction = d; b = b; calls = c; count = n; kind = topAt ks n 9; label = topAt ls n 0 }

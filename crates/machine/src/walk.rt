@@ -5,7 +5,7 @@ use place::Place;
 ghost use mathlib.Core.Path.{_≡_};
 ghost use Prim.Native.Nat.{_≤_};
 ghost use Rattle.decide.specs.Decide.{ruleOf};
-ghost use Rattle.machine.specs.Walk.{putIn, callsIn, callsOf, endedIn, goOf, Goes};
+ghost use Rattle.machine.specs.Walk.{putIn, callsIn, callsOf, spotBy, endedIn, goOf, Goes};
 
 // How far it went: why it stopped (0: all steps were made), how many were made, and where it is.
 pub struct Went {
@@ -75,6 +75,18 @@ pub fn calls(kinds: &[u16; 1104], n: usize) -> u16
     0
 }
 
+// Where a step stands.
+fn spot(direction: u8, b: u16, calls: u16, count: usize) -> Spot
+    ensures { λ r. ⌜ r ≡ spotBy direction b calls count ⌝ }
+{
+    Spot {
+        direction,
+        b,
+        calls,
+        count,
+    }
+}
+
 // At most n steps from a place of which so many frames are calls. In the loop the place is taken apart, so that all but the
 // frames stays in registers.
 pub fn go(
@@ -99,12 +111,7 @@ pub fn go(
     let mut deep = calls;
     let mut made: u32 = 0;
     while made < n {
-        let s = Spot {
-            direction,
-            b,
-            calls: deep,
-            count,
-        };
+        let s = spot(direction, b, deep, count);
         let m = decide(s, &kinds, &labels, bytes, table, downs, ups, arrays, cells);
         if m.reason != 0 {
             return ended(m.reason, made, direction, a, b, count, kinds, labels);

@@ -15,6 +15,7 @@ use Rattle.machine.proofs.walk.go.Reads as reads
 use Rattle.machine.proofs.walk.go.Lts as lts
 use Rattle.machine.proofs.walk.ended.Reads as ended-reads
 use Rattle.machine.proofs.walk.put.Reads as put-reads
+use Rattle.machine.proofs.walk.spot.Reads as spot-reads
 
 abbrev Inv-loop : tie.InvT-loop
 Inv-loop bytes table downs ups arrays cells₀ calls n kinds₀ labels₀ direction₀ a₀ b₀ count₀ deep₀ made₀ cells kinds labels direction a b count deep made =
@@ -27,16 +28,20 @@ abbrev μ-loop : tie.MeasureT-loop
     n - made
 
 abbrev Known : Type 0
-Known = lts.After-struct-known (decide-reads.Asked, decide-reads.Learnt, ended-reads.Asked, ended-reads.Learnt, put-reads.Asked, put-reads.Learnt) reads.Pre reads.Post Inv-loop μ-loop
+Known = lts.After-struct-known (spot-reads.Asked, spot-reads.Learnt, decide-reads.Asked, decide-reads.Learnt, ended-reads.Asked, ended-reads.Learnt, put-reads.Asked, put-reads.Learnt) reads.Pre reads.Post Inv-loop μ-loop
 
 abbrev Looped : Type 0
-Looped = lts.At-loop (decide-reads.Asked, decide-reads.Learnt, ended-reads.Asked, ended-reads.Learnt, put-reads.Asked, put-reads.Learnt) reads.Pre reads.Post Inv-loop μ-loop
+Looped = lts.At-loop (spot-reads.Asked, spot-reads.Learnt, decide-reads.Asked, decide-reads.Learnt, ended-reads.Asked, ended-reads.Learnt, put-reads.Asked, put-reads.Learnt) reads.Pre reads.Post Inv-loop μ-loop
 
 abbrev Started : Type 0
-Started = lts.Start (decide-reads.Asked, decide-reads.Learnt, ended-reads.Asked, ended-reads.Learnt, put-reads.Asked, put-reads.Learnt) reads.Pre reads.Post Inv-loop μ-loop
+Started = lts.Start (spot-reads.Asked, spot-reads.Learnt, decide-reads.Asked, decide-reads.Learnt, ended-reads.Asked, ended-reads.Learnt, put-reads.Asked, put-reads.Learnt) reads.Pre reads.Post Inv-loop μ-loop
 
-abbrev in-turn : Known → lts.In-loop (decide-reads.Asked, decide-reads.Learnt, ended-reads.Asked, ended-reads.Learnt, put-reads.Asked, put-reads.Learnt) reads.Pre reads.Post Inv-loop μ-loop
-in-turn k = k .before .before .before .before .before
+abbrev in-turn : Known → lts.In-loop (spot-reads.Asked, spot-reads.Learnt, decide-reads.Asked, decide-reads.Learnt, ended-reads.Asked, ended-reads.Learnt, put-reads.Asked, put-reads.Learnt) reads.Pre reads.Post Inv-loop μ-loop
+in-turn k = k .before .before .before .before .before .before
+
+-- where the step stands
+abbrev spotted : (k : Known) → lts.After-spot (spot-reads.Asked, spot-reads.Learnt, decide-reads.Asked, decide-reads.Learnt, ended-reads.Asked, ended-reads.Learnt, put-reads.Asked, put-reads.Learnt) reads.Pre reads.Post Inv-loop μ-loop
+spotted k = k .before .before .before .before .before
 
 abbrev looped : Known → Looped
 looped k = in-turn k .before
@@ -65,14 +70,15 @@ go-spec =
     (λ c. (omega arith, go-start _ _ _ _ _))
     (λ c κs. search needs)
     (λ c κs. search needs)
-    (λ c. let k = c .before .before in goes-refused (rule (started k)) (started k .args .n) (started k .args .place) (started k .args .calls) (started k .args .cells .now) (looped k .loop .made) (held (looped k)) (looped k .loop .deep) (looped k .loop .cells) (looped k .loop .inv .1) (k .before .decide .result) (stored k) (k .before .decide .ensures) (in-turn k .loop-test .taken) _ (c .before .if1 .taken) (c .ended .ensures))
+    (λ c κs. search needs)
+    (λ c. let k = c .before .before in goes-refused (rule (started k)) (started k .args .n) (started k .args .place) (started k .args .calls) (started k .args .cells .now) (looped k .loop .made) (held (looped k)) (looped k .loop .deep) (looped k .loop .cells) (looped k .loop .inv .1) (spotted k .spot .result) (spotted k .spot .ensures) (k .before .decide .result) (stored k) (k .before .decide .ensures) (in-turn k .loop-test .taken) _ (c .before .if1 .taken) (c .ended .ensures))
     (λ c. omega (arith, in-turn (c .before) .loop-test .taken, started (c .before) .fits .n))
     (λ c κs. search needs)
     (λ c κs. search needs)
     (λ c. omega (arith, in-turn (c .before .before .before .before .before) .loop-test .taken))
     (λ c. let e = c .before .before .before .before in let k = e .before in (
       omega (arith, in-turn k .loop-test .taken),
-      goes-on (rule (started k)) (started k .args .n) (started k .args .place) (started k .args .calls) (started k .args .cells .now) (looped k .loop .made) (held (looped k)) (looped k .loop .deep) (looped k .loop .cells) (looped k .loop .inv .1) (k .before .decide .result) (stored k) (k .before .decide .ensures) (in-turn k .loop-test .taken) (e .if1 .left) _ _ (c .before .before .put .ensures) (c .put2 .ensures),
+      goes-on (rule (started k)) (started k .args .n) (started k .args .place) (started k .args .calls) (started k .args .cells .now) (looped k .loop .made) (held (looped k)) (looped k .loop .deep) (looped k .loop .cells) (looped k .loop .inv .1) (spotted k .spot .result) (spotted k .spot .ensures) (k .before .decide .result) (stored k) (k .before .decide .ensures) (in-turn k .loop-test .taken) (e .if1 .left) _ _ (c .before .before .put .ensures) (c .put2 .ensures),
     ))
     (λ c κs. search needs)
     (λ c. goes-done _ _ _ _ _ _ _ _ _ (c .before .before .loop .inv .1) _ (c .before .loop-test .left) (c .ended2 .ensures)))

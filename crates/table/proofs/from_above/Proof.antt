@@ -1,8 +1,8 @@
--- `table::links::from_above` meets its contract: the cases of `Stores`. Assumes nothing.
+-- `table::from_above` meets its contract: the cases of `Stores`. Assumes nothing.
 use borrow.Author.Needs.{needs}
 use Rattle.table.proofs.Stores.{above}
-use Rattle.table.proofs.links.from_above.Statement.{statement}
-use Rattle.table.proofs.links.from_above.Tie as tie
+use Rattle.table.proofs.from_above.Statement.{statement}
+use Rattle.table.proofs.from_above.Tie as tie
 
 pub from-above-spec : {M : Type 1} → statement M
 from-above-spec =

@@ -1,8 +1,8 @@
--- `table::links::share` meets its contract: the cases of `Stores`. Assumes nothing.
+-- `table::share` meets its contract: the cases of `Stores`. Assumes nothing.
 use borrow.Author.Needs.{needs}
 use Rattle.table.proofs.Stores.{share-is}
-use Rattle.table.proofs.links.share.Statement.{statement}
-use Rattle.table.proofs.links.share.Tie as tie
+use Rattle.table.proofs.share.Statement.{statement}
+use Rattle.table.proofs.share.Tie as tie
 
 pub share-spec : {M : Type 1} → statement M
 share-spec =

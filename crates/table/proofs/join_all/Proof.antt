@@ -1,11 +1,11 @@
--- `table::links::join_all` meets its contract. The invariant: what is left to be done gives the whole. Assumes nothing.
+-- `table::join_all` meets its contract. The invariant: what is left to be done gives the whole. Assumes nothing.
 use mathlib.Core.Path.{_≡_}
 use Prim.Native.Nat.{_-_, _≤_, pred}
 use native.Mathlib.Omega.{arith}
 use Rattle.table.specs.Table.{joined}
 use Rattle.table.proofs.Loops.{joined-first, joined-on, joined-done}
-use Rattle.table.proofs.links.join_all.Statement.{statement}
-use Rattle.table.proofs.links.join_all.Tie as tie
+use Rattle.table.proofs.join_all.Statement.{statement}
+use Rattle.table.proofs.join_all.Tie as tie
 
 abbrev Inv-loop : tie.InvT-loop
 Inv-loop table₀ n g₀ table g = (g ≤ n) × (joined (pred n) 0 table₀ ≡ joined (pred n - g) g table)

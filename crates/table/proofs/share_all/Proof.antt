@@ -1,11 +1,11 @@
--- `table::links::share_all` meets its contract. The invariant: what is left to be done gives the whole. Assumes nothing.
+-- `table::share_all` meets its contract. The invariant: what is left to be done gives the whole. Assumes nothing.
 use mathlib.Core.Path.{_≡_}
 use Prim.Native.Nat.{_-_, _≤_}
 use native.Mathlib.Omega.{arith}
 use Rattle.table.specs.Table.{shared}
 use Rattle.table.proofs.Loops.{shared-first, shared-on, shared-done}
-use Rattle.table.proofs.links.share_all.Statement.{statement}
-use Rattle.table.proofs.links.share_all.Tie as tie
+use Rattle.table.proofs.share_all.Statement.{statement}
+use Rattle.table.proofs.share_all.Tie as tie
 
 abbrev Inv-loop : tie.InvT-loop
 Inv-loop table₀ n x₀ table x = (x ≤ n) × (shared n 0 table₀ ≡ shared (n - x) x table)

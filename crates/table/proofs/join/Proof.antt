@@ -1,8 +1,8 @@
--- `table::links::join` meets its contract: the cases of `Stores`. Assumes nothing.
+-- `table::join` meets its contract: the cases of `Stores`. Assumes nothing.
 use borrow.Author.Needs.{needs}
 use Rattle.table.proofs.Stores.{join-is}
-use Rattle.table.proofs.links.join.Statement.{statement}
-use Rattle.table.proofs.links.join.Tie as tie
+use Rattle.table.proofs.join.Statement.{statement}
+use Rattle.table.proofs.join.Tie as tie
 
 pub join-spec : {M : Type 1} → statement M
 join-spec =
