@@ -1,16 +1,15 @@
 -- The numbers of a command line, case by case: what each `return` of number.rt knows gives what the definition says.
 use Prim.Native.Nat.{ℕ, _+_, _≤_, _<_}
-use mathlib.Core.Path.{_≡_, ap, _∙_}
+use mathlib.Core.Path.{_≡_, _∙_}
 use mathlib.Core.Bool.{true, false, cond}
 use mathlib.Core.List.{List}
 use native.Mathlib.Omega.{arith}
 use lib.Dec.{eqb}
 use lib.IntN.{ℤ, pos, negsuc}
-use lib.ListN.{length, getD, drop}
+use lib.ListN.{length, getD}
 use lib.Signed.{ltZ}
 use borrow.Author.Tests.{lt-ltb, le-ltb, le-leb, lt-leb, eq-eqb, ne-eqb}
 use Rattle.words.specs.Words.{digitCount, digitValue, signedNext, signedValue}
-use Rattle.bench.specs.declared.number.Natural.{Natural}
 use Rattle.bench.specs.declared.number.Natural.the-variants as natural
 use Rattle.bench.specs.declared.number.Integer.{Integer}
 use Rattle.bench.specs.declared.number.Integer.the-variants as integer

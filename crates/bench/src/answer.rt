@@ -1,11 +1,10 @@
 // What each command answers: the bytes of the new session and the text to print. No file is touched here.
-ghost use mathlib.Core.Path.{_≡_};
 ghost use Prim.Native.Nat.{_≤_};
 ghost use lib.ListN.{length};
 ghost use Rattle.machine.specs.Answers.{direction};
 ghost use Rattle.print.specs.Lines.{refusedLine};
 ghost use Rattle.bench.specs.Room.{Room};
-ghost use Rattle.bench.specs.Answers.{Text, Checks, Says, Keeps, Starts, Does, Answers, Numbered, Moves, shownLines};
+ghost use Rattle.bench.specs.Answers.{Checks, Says, Keeps, Starts, Does, Answers, Numbered, Moves, shownLines};
 ghost use Rattle.bench.specs.declared.command.Deed.the-variants.{Set};
 use crate::command::Deed;
 use machine::Ran;

@@ -1,6 +1,5 @@
 // Files in, answers out: both files are read before either is judged, and a session is written before its answer is printed.
 ghost use mathlib.Core.Path.{_≡_};
-ghost use Prim.Native.Nat.{_≤_};
 ghost use lib.ListN.{length};
 ghost use Rattle.bench.specs.Room.{Room};
 use crate::answer::Answer;

@@ -1,24 +1,24 @@
 -- The answers of the functions of src/lib.rt, case by case, over plain numbers and lists. Assumes nothing.
-use mathlib.Core.Path.{_≡_, refl, sym, ap, _∙_}
+use mathlib.Core.Path.{_≡_, refl, ap, _∙_}
 use mathlib.Core.List.{List}
 use mathlib.Core.Bool.{Bool, true, false, cond}
 use Prim.Native.Nat.{ℕ, zero, suc, _+_, _-_, _≤_, _<_}
 use native.Mathlib.Omega.{arith}
 use borrow.Author.Tests.{eq-eqb, ne-eqb, lt-ltb, le-ltb, le-leb, lt-leb}
-use lib.Dec.{ltb, leb, eqb}
+use lib.Dec.{eqb}
 use lib.IntN.{ℤ, pos, negsuc}
 use lib.ListN.{getD}
 use lib.Signed.{ltZ}
 use mir.Syntax.{w32, w64}
 use mir.Val.{SFits, ofZ, toZ}
 use mir.Facts.{toZ-ofZ}
-use Rattle.expr.specs.Tree.{Fault, byZero, badIndex as outside, Worth, value, stop}
+use Rattle.expr.specs.Tree.{Fault, byZero, badIndex as outside, value, stop}
 use Rattle.expr.specs.Bytes.{parse}
-use Rattle.expr.specs.Answers.{worthAt, WorthSays, faultNumber}
+use Rattle.expr.specs.Answers.{worthAt, WorthSays}
 use Rattle.place.specs.Methods.{topAt}
 use Rattle.moves.specs.Stores.{Answer, ok, no, number, reasonOf, Store}
 use Rattle.decide.specs.Sets.{faultOf, Leaves, setAt}
-use Rattle.decide.specs.Decide.{Seen, seenBy, seen, byKind, byLabel, bare, lookIn, moreOf, otherOf, alongOf, truthOf, refusedOf, keptOf, pushedOf, poppedOf, changedOf, headIn, middleIn, tailIn, chosenOf, closedOf, againOf, openedOf, repeatedOf, gateOf, enteredTo, calledOf, ledOf, backOf, returnedOf, testedOf, assignedOf, moving, afterSet, Rules, ruleOf}
+use Rattle.decide.specs.Decide.{Seen, seenBy, seen, byKind, byLabel, bare, lookIn, moreOf, otherOf, alongOf, truthOf, refusedOf, keptOf, pushedOf, poppedOf, changedOf, chosenOf, closedOf, againOf, openedOf, repeatedOf, gateOf, enteredTo, ledOf, backOf, returnedOf, testedOf, assignedOf, moving, afterSet, Rules, ruleOf}
 use Rattle.decide.specs.declared.Spot.{Spot}
 use Rattle.decide.specs.declared.Move.{Move}
 use Rattle.decide.proofs.SetCases.{is-stop, is-value}

@@ -1,12 +1,12 @@
 -- The answers of the functions of src/set.rt, case by case, over plain numbers and lists. Assumes nothing.
-use mathlib.Core.Path.{_≡_, refl, sym, ap, ap₂, _∙_}
-use mathlib.Core.List.{List, [], _∷_}
+use mathlib.Core.Path.{_≡_, refl, sym, ap, _∙_}
+use mathlib.Core.List.{List}
 use mathlib.Core.Bool.{Bool, true, false, false≢true, true≢false, cond}
 use Prim.Native.Nat.{ℕ, zero, suc, _+_, _≤_, _<_}
 use native.Mathlib.Nat.{add-comm}
 use native.Mathlib.Omega.{arith}
 use borrow.Author.Tests.{eq-eqb, ne-eqb, lt-ltb, le-ltb, ltb-true}
-use lib.Dec.{ltb, eqb}
+use lib.Dec.{eqb}
 use lib.IntN.{ℤ, pos, negsuc, _+ℤ_, _-ℤ_}
 use lib.ListN.{length, getD, take, drop, length-take, List·getD-eq-default, set as put}
 use lib.Seq.{getD-take, getD-drop, set-out}
@@ -17,9 +17,9 @@ use mir.Facts.{toZ-ofZ}
 use Rattle.values.specs.Values.{wrap, xorZ}
 use Rattle.expr.specs.Tree.{Fault, byZero, badIndex as outside, Worth, value, stop}
 use Rattle.expr.specs.Bytes.{Got, parse}
-use Rattle.expr.specs.Answers.{packedWorth, InCell, arraysOf, worthAt, WorthSays, movedTo, faultNumber}
+use Rattle.expr.specs.Answers.{packedWorth, InCell, arraysOf, worthAt, WorthSays, movedTo}
 use Rattle.records.specs.Faults.{word}
-use Rattle.moves.specs.Stores.{Answer, ok, no, Reason, number, badIndex, bind, Store, answered, reasonOf, applied}
+use Rattle.moves.specs.Stores.{Answer, ok, no, Reason, number, bind, Store, answered, reasonOf, applied}
 use Rattle.decide.specs.Sets.{operatorAt, worked, faultOf, missOf, entryBy, EntrySays, targetOf, targetEnd, TargetSays, Leaves, setTo, setEntry, setAt}
 
 -- a signed number that was put in a variable, a field or an argument is read back from its bits

@@ -1,6 +1,6 @@
 -- What a step decides from the table, the innermost frame and the store, for any of them. Nothing here has to be believed:
 -- machine/proofs/Decided joins it to `step`.
-use Prim.Native.Nat.{ℕ, zero, suc, _+_, _-_}
+use Prim.Native.Nat.{ℕ, _+_, _-_}
 use mathlib.Core.List.{List}
 use mathlib.Core.Path.{_≡_}
 use mathlib.Core.Bool.{Bool, false, cond}

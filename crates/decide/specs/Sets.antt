@@ -1,16 +1,16 @@
 -- A SET read from the bytes, for any bytes and any arrays. Nothing here has to be believed: machine/proofs/Sets joins it to `assigned`.
-use Prim.Native.Nat.{ℕ, zero, suc, _+_, _<_, _≤_}
+use Prim.Native.Nat.{ℕ, _+_, _<_, _≤_}
 use mathlib.Core.List.{List}
-use mathlib.Core.Bool.{Bool, cond}
+use mathlib.Core.Bool.{cond}
 use mathlib.Core.Path.{_≡_}
 use lib.ListN.{getD, set as put}
 use lib.Dec.{ltb, eqb}
 use lib.IntN.{ℤ, pos, negsuc}
-use Rattle.expr.specs.Tree.{Arrays, Worth, value, stop}
+use Rattle.expr.specs.Tree.{Arrays, Worth}
 use Rattle.expr.specs.Answers.{arraysOf, worthAt}
 use Rattle.expr.specs.Bytes.{parse}
 use Rattle.records.specs.Faults.{word}
-use Rattle.moves.specs.Stores.{Answer, ok, no, Reason, number, badIndex, bind, Store, answered, applied}
+use Rattle.moves.specs.Stores.{Answer, ok, no, number, badIndex, bind, Store, answered, applied}
 
 abbrev pub operatorAt : ℕ → ℕ → ℕ
 operatorAt o d = cond (eqb d 0) o (cond (eqb o 0) 1 (cond (eqb o 1) 0 o))

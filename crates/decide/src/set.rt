@@ -5,8 +5,6 @@ use codes::short;
 use expr::amount;
 ghost use mathlib.Core.Path.{_≡_};
 ghost use Prim.Native.Nat.{_+_, _<_};
-ghost use lib.IntN.{pos};
-ghost use lib.ListN.{getD};
 ghost use mir.Syntax.{w64};
 ghost use mir.Val.{ofZ};
 ghost use Rattle.expr.specs.Answers.{arraysOf};

@@ -3,7 +3,7 @@
 -- `Post`: for those the theorems are stated of the definition that the contract cites, at the answer and the session afterwards.
 -- A file's elements are bytes, as its type says.
 use Prim.Native.Nat.{ℕ}
-use mathlib.Core.Bool.{Bool, true, false}
+use mathlib.Core.Bool.{Bool}
 use mathlib.Core.List.{List}
 use mathlib.Core.Path.{_≡_, ap}
 use contract.Lifetimes.{Lfts}

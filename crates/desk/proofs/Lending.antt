@@ -2,7 +2,7 @@
 -- It is made once, for any g and any statement P about the file, the session and the outcome; each function of that shape cites it.
 -- The borrow of the session is opened, its record copied into a local and passed; the session that comes back is stored, and the borrow closed at it.
 -- All that it knows of g is that it meets its contract. Assumes nothing.
-use mathlib.Core.Path.{_≡_, refl, ap}
+use mathlib.Core.Path.{refl, ap}
 use Prim.Native.Nat.{ℕ}
 use mathlib.Core.List.{[], _∷_, List}
 use lib.ListN.{length}

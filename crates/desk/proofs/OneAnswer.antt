@@ -1,6 +1,6 @@
 -- Desk says one outcome for every file, session and number.
 --     move-one, begin-one, open-one, saving-one, check-one     any two outcomes that are said are equal
-use Prim.Native.Nat.{ℕ, _<_, _≤_}
+use Prim.Native.Nat.{ℕ}
 use mathlib.Core.Bool.{Bool}
 use mathlib.Core.List.{List}
 use mathlib.Core.Path.{_≡_, refl, sym, ap, ap₂, _∙_, subst}

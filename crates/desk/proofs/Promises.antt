@@ -1,11 +1,11 @@
 -- What the promises say of a session that is lent.
 --     step-kept        a step of the desk that is refused leaves the session "untouched to the last field"
 --     wrong-count      "A count other than the program's cell count, over 2,048 too, is 20", and leaves the session
-use Prim.Native.Nat.{ℕ, _≤_}
+use Prim.Native.Nat.{ℕ}
 use mathlib.Core.Bool.{Bool, true, false}
 use mathlib.Core.List.{List, _++_}
 use mathlib.Core.Logic.{_⊎_, inl, inr}
-use mathlib.Core.Path.{_≡_, refl, sym, ap, ap₂, _∙_}
+use mathlib.Core.Path.{_≡_, refl, sym, ap, _∙_}
 use native.Mathlib.Omega.{arith}
 use lib.ListN.{length, drop, take-append-drop}
 use lib.Seq.{length-take-le}

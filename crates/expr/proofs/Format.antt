@@ -12,12 +12,12 @@ use native.Mathlib.Nat.{le-refl, add-assoc}
 use native.Mathlib.Omega.{arith}
 use lib.ListN.{length, getD, drop, length-append, length-drop}
 use lib.Seq.{drop-drop, drop-append-seam}
-use lib.Dec.{eqb, ltb, leb}
+use lib.Dec.{eqb, ltb}
 use borrow.Author.Tests.{le-leb, leb-true, lt-ltb, ltb-true, eqb-true, eq-eqb}
 use Rattle.codes.specs.Codes.{bytes16, word16, AllBytes}
 use Rattle.codes.proofs.Rows.{one-byte, two-bytes, byte-of, head-of, short-lt, cell-fits, short-bytes, cell-bytes, short-back, cell-back}
 use Rattle.expr.specs.Tree.{Expr, con, var, read, bin, depth, Valid, encode}
-use Rattle.expr.specs.Bytes.{Stands, Got, parse, whole, layer, gotCon, gotVar, gotRead, gotBin}
+use Rattle.expr.specs.Bytes.{Stands, Got, parse, whole, gotCon, gotVar, gotRead, gotBin}
 use Rattle.expr.specs.Answers.{EndSays, endOf, pickEnd}
 use Rattle.expr.specs.declared.End.{End}
 use Rattle.expr.specs.declared.End.the-variants.{At, Bad}

@@ -2,7 +2,7 @@
 use mathlib.Core.Path.{_≡_, refl}
 use mathlib.Core.List.{[], _∷_}
 use mathlib.Core.Bool.{true, false}
-use Prim.Native.Nat.{ℕ, zero, suc, _+_}
+use Prim.Native.Nat.{ℕ, zero, suc}
 use lib.IntN.{pos, negsuc}
 use Rattle.values.specs.Values.{applyOp}
 use Rattle.expr.specs.Tree.{anyName, Expr, con, var, read, bin, depth, encode, element, eval, Worth, value, stop, byZero, badIndex}

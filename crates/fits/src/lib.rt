@@ -1,7 +1,7 @@
 // Does a lent place fit the program (refusal 21)? From the table of a checked file, in time linear in the frames. Every function is total.
 ghost use mathlib.Core.Path.{_≡_};
 ghost use Prim.Native.Nat.{_<_};
-ghost use Rattle.fits.specs.Fits.{slotAt, entryAt, numberOf, lost, startOf, constructOf, callKind, calleeOf, callOf, outward, ends, chained, left, gapIs, gapFits, edgeFits, fitsIn};
+ghost use Rattle.fits.specs.Fits.{slotAt, entryAt, numberOf, lost, startOf, constructOf, callKind, calleeOf, callOf, outward, ends, chained, gapIs, gapFits, edgeFits, fitsIn};
 use place::Place;
 
 // Where one stands on the way outward through the frames.

@@ -1,40 +1,35 @@
 -- The decision does what the step on cuts says, for calls and returns; and so for every record.
-use Prim.Native.Nat.{ℕ, zero, suc, _+_, _-_, _≤_, _<_, pred}
-use mathlib.Core.Path.{_≡_, refl, sym, ap, ap₂, _∙_, subst}
-use mathlib.Core.Bool.{Bool, true, false, cond, _&&_}
+use Prim.Native.Nat.{ℕ, suc, _+_, _-_, _≤_, _<_}
+use mathlib.Core.Path.{_≡_, refl, sym, ap, _∙_, subst}
+use mathlib.Core.Bool.{Bool, true, false, cond}
 use mathlib.Core.List.{List, [], _∷_, _++_}
-use lib.ListN.{length, getD, length-append}
+use lib.ListN.{length, length-append}
 use lib.Dec.{ltb, leb, eqb}
 use native.Mathlib.Omega.{arith}
 use native.Mathlib.Numerals.{add-one}
-use native.Mathlib.Nat.{zero-add}
-use borrow.Author.Tests.{eq-eqb, ne-eqb, lt-ltb, ltb-true, ltb-false, le-leb, lt-leb}
-use Rattle.place.specs.Places.{Dir, down, up, opp, Frame, called, frameKind, frameLabel}
-use Rattle.place.specs.Slots.{dirNumber, held}
+use borrow.Author.Tests.{ne-eqb, lt-ltb, ltb-true, ltb-false, le-leb, lt-leb}
+use Rattle.place.specs.Places.{Dir, down, up, opp, Frame, called}
+use Rattle.place.specs.Slots.{dirNumber}
 use Rattle.records.specs.Records.{Record, names, begin, end, assign, if, else, fi, from, loop, until, call, uncall, skip, kind, begins, isBegin, InSize, FineFrom}
-use Rattle.order.specs.Trees.{Stmt, setS, skipS, callS, uncallS, ifS, fromS, Block, one, _then_, Tree, procedures, recordsS, recordsB, recordsP, recordsOf}
+use Rattle.order.specs.Trees.{Block, Tree, procedures, recordsP, recordsOf}
 use Rattle.program.specs.Says.{Accepts, thereIn}
-use Rattle.records.specs.Faults.{word}
-use Rattle.records.specs.Reading.{recordAs}
 use Rattle.moves.specs.Labels.{at}
-use Rattle.moves.specs.Stores.{atEnd, tooDeep, Answer, ok, no, Store}
-use Rattle.moves.proofs.Linked.{Rec, nameL, beginL, endL, setL, skipL, ifL, elseL, fiL, fromL, loopL, untilL, callL, uncallL, Prog, forget, side, gateL, resume}
-use Rattle.moves.proofs.Cuts.{Cut, met, gap, leave, enter′, return′, port, through, cstep, SimpleOk, ProcOk, Local, Wf, Good, in-main, by-call, by-uncall, Sits}
-use Rattle.moves.proofs.Loop.{fit, fit-gate, gate-pos, lo-met, hi-met, not-begin, not-end}
+use Rattle.moves.specs.Stores.{tooDeep, Answer, ok, no, Store}
+use Rattle.moves.proofs.Linked.{Rec, callL, uncallL, Prog, forget, side, gateL}
+use Rattle.moves.proofs.Cuts.{Cut, met, gap, leave, return′, through, SimpleOk, ProcOk, Good, in-main, by-call, by-uncall, Sits}
+use Rattle.moves.proofs.Loop.{fit, gate-pos}
 use Rattle.moves.proofs.Rows.{prog}
 use Rattle.moves.proofs.Links.{at-is}
-use Rattle.moves.proofs.Gaps.{tip}
-use Rattle.moves.proofs.View.{stack, view, side-call, side-uncall}
+use Rattle.moves.proofs.View.{stack, side-call, side-uncall}
 use Rattle.moves.proofs.Follow.{and-true}
 use Rattle.table.proofs.Tabled.{Tabled}
 use Rattle.decide.specs.declared.Move.{Move}
 use Rattle.decide.specs.Decide.{Seen, lookIn, moreOf, otherOf, alongOf, gateOf, resumedOf, refusedOf, enteredTo, enteredOf, returnedOf, moving, ruled, ruleOf}
-use Rattle.decide.proofs.DecideCases.{rule-call, rule-uncall, rule-return}
 use Rattle.machine.proofs.Room.{encl-room, stack-room, room}
-use Rattle.machine.proofs.Labels.{getD-any, small, inside, near}
-use Rattle.machine.proofs.Landing.{topKind, topLabel, spotAt, Fate, Acts, lands, acts-push, acts-pop}
+use Rattle.machine.proofs.Labels.{getD-any, inside}
+use Rattle.machine.proofs.Landing.{topLabel, spotAt, Fate, Acts, lands, acts-push, acts-pop}
 use Rattle.machine.proofs.Sets.{Agrees}
-use Rattle.machine.proofs.Decided.{w, fate-of, kind-at, record-is}
+use Rattle.machine.proofs.Decided.{w, kind-at}
 use Rattle.machine.proofs.Fates as fates
 
 -- ---- at most 64 procedures

@@ -1,45 +1,35 @@
 -- The decision does what the step on cuts says: one case for each kind of record and direction.
-use Prim.Native.Nat.{ℕ, zero, suc, _+_, _-_, _≤_, _<_, pred}
-use mathlib.Core.Path.{_≡_, refl, sym, ap, ap₂, _∙_, subst}
-use mathlib.Core.Bool.{Bool, true, false, cond, not, _&&_, Bool·beq as same}
-use mathlib.Core.List.{List, [], _∷_, _++_}
-use lib.ListN.{length, getD}
-use lib.Dec.{ltb, leb, eqb}
-use lib.IntN.{ℤ, pos, negsuc}
+use Prim.Native.Nat.{ℕ, zero, suc, _+_, _-_, _<_}
+use mathlib.Core.Path.{_≡_, refl, sym, ap, _∙_, subst}
+use mathlib.Core.Bool.{Bool, true, false}
+use mathlib.Core.List.{List}
+use lib.ListN.{length}
+use lib.IntN.{pos, negsuc}
 use native.Mathlib.Omega.{arith}
-use native.Mathlib.Numerals.{add-one}
-use borrow.Author.Tests.{eq-eqb, ne-eqb, lt-ltb, ltb-true, ltb-false, le-leb, lt-leb}
+use borrow.Author.Tests.{eq-eqb, ne-eqb}
 use Rattle.values.specs.Values.{isTrue}
 use Rattle.expr.specs.Tree.{Expr, byZero, badIndex as outside, Worth, value, stop, eval}
 use Rattle.expr.specs.Bytes.{parse}
-use Rattle.expr.specs.Answers.{arraysOf, worthAt}
-use Rattle.place.specs.Places.{Dir, down, up, opp, Frame, inThen, inElse, inDo, inLoop, called, frameKind, frameLabel}
-use Rattle.place.specs.Slots.{dirNumber, held}
-use Rattle.records.specs.Records.{Target, Record, names, begin, end, assign, if, else, fi, from, loop, until, call, uncall, skip, kind}
-use Rattle.order.specs.Trees.{Tree, procedures, recordsOf}
-use Rattle.program.specs.Says.{Accepts, thereIn}
-use Rattle.records.specs.Faults.{word}
+use Rattle.expr.specs.Answers.{arraysOf}
+use Rattle.place.specs.Places.{Frame}
+use Rattle.records.specs.Records.{if, fi, from, until, kind}
+use Rattle.order.specs.Trees.{Tree, recordsOf}
+use Rattle.program.specs.Says.{Accepts}
 use Rattle.records.specs.Reading.{recordAs}
-use Rattle.records.specs.Walk.{offsets}
 use Rattle.moves.specs.Labels.{at}
-use Rattle.moves.specs.Stores.{Reason, wrongValue, atEnd, tooDeep, number, Answer, ok, no, bind, Store, layout, answered, evaluated, holds, assigned}
-use Rattle.moves.specs.Step.{again, must}
-use Rattle.moves.proofs.Linked.{Con, Rec, nameL, beginL, endL, setL, skipL, ifL, elseL, fiL, fromL, loopL, untilL, callL, uncallL, Prog, forget, headOf, side, gateL, resume}
-use Rattle.moves.proofs.Cuts.{Cut, met, gap, leave, hub, arm, assign′, pass′, enter′, return′, port, through, cstep, Span, SimpleOk, ProcOk, Local, Wf, Good, in-main, by-call, by-uncall, Sits}
-use Rattle.moves.proofs.Loop.{fit, fit1, fit3, fit-gate, gate-pos, lo-met, hi-met, pos1, not-begin, not-end}
+use Rattle.moves.specs.Stores.{wrongValue, Answer, ok, no, bind, Store, layout, answered, evaluated, holds}
+use Rattle.moves.proofs.Linked.{Con, Rec, Prog, forget, headOf}
+use Rattle.moves.proofs.Cuts.{Cut, Wf}
 use Rattle.moves.proofs.Rows.{prog}
 use Rattle.moves.proofs.Links.{at-is}
-use Rattle.moves.proofs.Gaps.{tip}
-use Rattle.moves.proofs.View.{stack, view, fresh-stack, side-call, side-uncall, encl-left}
 use Rattle.moves.proofs.Accepted.{accepted-wf}
-use Rattle.table.proofs.Tabled.{Tabled, Part, is-if, is-else, is-fi, is-from, is-loop, is-until}
+use Rattle.table.proofs.Tabled.{Tabled, Part}
 use Rattle.decide.specs.declared.Move.{Move}
-use Rattle.decide.specs.Decide.{Seen, lookIn, otherOf, alongOf, truthOf, refusedOf, keptOf, pushedOf, poppedOf, changedOf, headIn, middleIn, tailIn, chosenOf, closedOf, againOf, openedOf, repeatedOf, testedOf, assignedOf, Ruled, ruled, Rules, afterSet, ruleOf}
-use Rattle.decide.specs.Sets.{Leaves, setAt}
-use Rattle.decide.proofs.DecideCases.{rule-set, rule-skip, rule-call, rule-uncall, rule-return, rule-test}
-use Rattle.machine.proofs.Labels.{small, inside, near, offset-is, along-is}
-use Rattle.machine.proofs.Landing.{topKind, topLabel, spotAt, again-is, Fate, keeps, pushes, pops, changes}
-use Rattle.machine.proofs.Sets.{Agrees, worth-is, set-is}
+use Rattle.decide.specs.Decide.{Seen, lookIn, alongOf, truthOf, pushedOf, poppedOf, changedOf, headIn, closedOf, againOf, openedOf, testedOf, Ruled, ruled, Rules, ruleOf}
+use Rattle.decide.proofs.DecideCases.{rule-test}
+use Rattle.machine.proofs.Labels.{near, offset-is}
+use Rattle.machine.proofs.Landing.{Fate}
+use Rattle.machine.proofs.Sets.{Agrees, worth-is}
 
 pub clash : {X : Type 0} {b : Bool} → b ≡ true → b ≡ false → X
 clash p q = absurd (let z : _≡_ {A = ℕ} 0 1 = cc in let y : ⊥ = omega arith in y)

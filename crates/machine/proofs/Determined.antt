@@ -1,14 +1,11 @@
 -- For each public function: any two outcomes that its contract permits are equal, the answer, the place and the store together.
 -- `Post κs a r s` is the contract as the check reads it: of the arguments a, the answer r and what each argument holds afterwards, s.
 -- A file's elements are bytes, as its type says.
-use mathlib.Core.Path.{_≡_, refl, ap, _∙_}
+use mathlib.Core.Path.{_≡_}
 use contract.Lifetimes.{Lfts}
 use Rattle.codes.specs.Codes.{AllBytes}
 use Rattle.moves.specs.Step.{step as forward, stepBack}
 use Rattle.moves.specs.Runs.{run as running, runBack}
-use Rattle.machine.specs.declared.Ran.{Ran}
-use Rattle.machine.specs.declared.Stepped.{Stepped}
-use Rattle.machine.specs.declared.Started.{Started}
 use Rattle.machine.proofs.OneAnswer.{run-one, step-one, start-one}
 use Rattle.machine.proofs.run.Reads as run
 use Rattle.machine.proofs.run_back.Reads as run-back

@@ -1,33 +1,31 @@
 -- The decision does what the step on cuts says, for the records that test, assign and pass: one case for each kind and direction.
-use Prim.Native.Nat.{ℕ, zero, suc, _+_, _≤_, _<_, pred}
-use mathlib.Core.Path.{_≡_, refl, sym, ap, ap₂, _∙_, subst}
-use mathlib.Core.Bool.{Bool, true, false, cond, Bool·beq as same}
-use mathlib.Core.List.{List, [], _∷_, _++_}
+use Prim.Native.Nat.{ℕ, suc, _+_, _≤_, _<_, pred}
+use mathlib.Core.Path.{_≡_, refl, sym, ap, _∙_}
+use mathlib.Core.Bool.{true, false, cond, Bool·beq as same}
+use mathlib.Core.List.{List, _∷_, _++_}
 use lib.ListN.{length}
 use native.Mathlib.Omega.{arith}
-use borrow.Author.Tests.{eq-eqb, ne-eqb}
+use borrow.Author.Tests.{eq-eqb}
 use Rattle.expr.specs.Tree.{Expr}
-use Rattle.expr.specs.Bytes.{parse}
 use Rattle.place.specs.Places.{Dir, down, up, opp, Frame, inThen, inElse, inDo, inLoop, frameKind, frameLabel}
-use Rattle.place.specs.Slots.{dirNumber, held}
-use Rattle.records.specs.Records.{Target, assign, if, fi, from, until, skip, kind}
+use Rattle.place.specs.Slots.{dirNumber}
+use Rattle.records.specs.Records.{Target, kind}
 use Rattle.order.specs.Trees.{Tree, recordsOf}
 use Rattle.program.specs.Says.{Accepts}
 use Rattle.records.specs.Reading.{recordAs}
 use Rattle.moves.specs.Stores.{Reason, atEnd, wrongValue, zeroDivisor, badIndex, tooDeep, number, Answer, ok, no, bind, Store, holds, assigned}
 use Rattle.moves.specs.Step.{again, must}
-use Rattle.moves.proofs.Linked.{Con, Rec, setL, skipL, ifL, elseL, fiL, fromL, loopL, untilL, Prog, forget, side}
-use Rattle.moves.proofs.Cuts.{Cut, met, gap, leave, hub, arm, assign′, pass′, port, through, SimpleOk, CondOk, LoopOk, Span, Local, Sits}
+use Rattle.moves.proofs.Linked.{Con, Rec, setL, skipL, ifL, fiL, fromL, untilL, Prog, forget, side}
+use Rattle.moves.proofs.Cuts.{Cut, met, gap, leave, SimpleOk, CondOk, LoopOk, Span, Sits}
 use Rattle.moves.proofs.Loop.{fit1, fit3, lo-met, hi-met, pos1}
 use Rattle.moves.proofs.Rows.{prog}
 use Rattle.moves.proofs.View.{stack, fresh-stack, encl-left}
-use Rattle.table.proofs.Tabled.{Tabled, Part, is-if, is-fi, is-from, is-until}
-use Rattle.decide.specs.declared.Move.{Move}
-use Rattle.decide.specs.Decide.{Seen, lookIn, alongOf, keptOf, pushedOf, poppedOf, changedOf, chosenOf, closedOf, againOf, headIn, middleIn, openedOf, repeatedOf, testedOf, assignedOf, Ruled, ruled, Rules, afterSet, ruleOf}
+use Rattle.table.proofs.Tabled.{Tabled, is-if, is-fi, is-from, is-until}
+use Rattle.decide.specs.Decide.{Seen, lookIn, alongOf, keptOf, pushedOf, poppedOf, changedOf, chosenOf, closedOf, openedOf, repeatedOf, testedOf, assignedOf, ruled, Rules, ruleOf}
 use Rattle.decide.specs.Sets.{Leaves, setAt}
 use Rattle.decide.proofs.DecideCases.{rule-set, rule-skip}
 use Rattle.machine.proofs.Labels.{small, inside}
-use Rattle.machine.proofs.Landing.{topKind, topLabel, spotAt, again-is, Fate, keeps, pushes, pops, changes}
+use Rattle.machine.proofs.Landing.{topKind, spotAt, again-is, Fate, keeps, pushes, pops, changes}
 use Rattle.machine.proofs.Sets.{Agrees, set-is}
 use Rattle.machine.proofs.Decided.{w, fate-of, kind-at, head-at, record-is, middle-at, tail-at, test-fate, tree-if, tree-fi, tree-from, tree-until, close-then, close-else, open-out, open-in}
 

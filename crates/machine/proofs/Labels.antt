@@ -1,7 +1,7 @@
 -- What the table and the bytes of an accepted file say of a label inside a procedure.
 use Prim.Native.Nat.{ℕ, zero, suc, _+_, _^_, _≤_, _<_, pred}
 use mathlib.Core.Path.{_≡_, refl, sym, ap, _∙_, subst}
-use mathlib.Core.Bool.{Bool, true, false, cond}
+use mathlib.Core.Bool.{Bool, true, false}
 use mathlib.Core.List.{List, [], _∷_, _++_, append-assoc}
 use lib.ListN.{length, getD, drop, length-append, length-drop, List·getD-eq-default}
 use lib.Seq.{drop-append-le}
@@ -12,7 +12,6 @@ use Rattle.place.specs.Slots.{dirNumber}
 use Rattle.records.specs.Records.{Record, names, skip, kind, body, encodeRecord, bytesOf, Formed, FineFrom}
 use Rattle.order.specs.Trees.{Tree, recordsOf}
 use Rattle.program.specs.Says.{Accepts}
-use Rattle.records.specs.Faults.{word}
 use Rattle.records.specs.Reading.{recordAs}
 use Rattle.records.specs.Walk.{offsets}
 use Rattle.records.proofs.Offsets.{record-at, word-is, short-is, size-of}
@@ -21,7 +20,7 @@ use Rattle.records.proofs.Complete.{complete-body}
 use Rattle.moves.specs.Labels.{at}
 use Rattle.moves.specs.Places.{Dir, down, up}
 use Rattle.moves.proofs.Linked.{Rec, nameL, beginL, endL, setL, skipL, ifL, elseL, fiL, fromL, loopL, untilL, callL, uncallL, Prog, forget}
-use Rattle.moves.proofs.Cuts.{met, gap, leave, Local, Wf, Sits}
+use Rattle.moves.proofs.Cuts.{gap, leave, Local, Sits}
 use Rattle.moves.proofs.Rows.{prog}
 use Rattle.moves.proofs.Links.{at-is}
 use Rattle.moves.proofs.Gaps.{tip}

@@ -1,9 +1,9 @@
 -- Where a move lands: the slots after it are those of the new frames, and its labels the ends of the gap where a record is left.
 use Prim.Native.Nat.{ℕ, zero, suc, _+_, _-_, _≤_, _<_}
-use mathlib.Core.Path.{_≡_, refl, sym, ap, ap₂, _∙_, subst}
+use mathlib.Core.Path.{_≡_, refl, sym, ap, _∙_, subst}
 use mathlib.Core.Bool.{Bool, true, false, cond, _&&_}
 use mathlib.Core.List.{List, [], _∷_, _++_, map, reverse}
-use lib.ListN.{length, getD, set, replicate, length-append, length-map, length-reverse}
+use lib.ListN.{length, getD, set, replicate, length-map, length-reverse}
 use lib.Seq.{set-getD, getD-append-add}
 use lib.Dec.{ltb, eqb}
 use native.Mathlib.Omega.{arith}
@@ -13,19 +13,19 @@ use Rattle.place.specs.declared.Place.{Place as Held}
 use Rattle.place.specs.Places.{Dir, opp, Frame, frameKind, frameLabel}
 use Rattle.place.specs.Slots.{dirNumber, slots, held}
 use Rattle.place.proofs.Laws.{push-slots, pop-slots, change-slots}
-use Rattle.order.specs.Trees.{Tree, recordsOf}
+use Rattle.order.specs.Trees.{Tree}
 use Rattle.program.specs.Says.{Accepts}
-use Rattle.moves.specs.Stores.{Reason, number, Answer, ok, no, Store}
+use Rattle.moves.specs.Stores.{number, Answer, ok, no, Store}
 use Rattle.moves.specs.Step.{again}
 use Rattle.moves.proofs.Linked.{Prog, side}
-use Rattle.moves.proofs.Cuts.{Cut, met, gap, leave, Sits}
+use Rattle.moves.proofs.Cuts.{Cut, gap, leave, Sits}
 use Rattle.moves.proofs.Loop.{met-gap}
 use Rattle.moves.proofs.Rows.{prog}
 use Rattle.moves.proofs.Gaps.{tip}
 use Rattle.moves.proofs.View.{stack, view}
 use Rattle.table.proofs.Tabled.{Tabled}
 use Rattle.decide.specs.declared.Move.{Move}
-use Rattle.decide.specs.Decide.{Seen, alongOf, moving, moreOf, keptOf, pushedOf, poppedOf, changedOf, againOf, Ruled, ruled}
+use Rattle.decide.specs.Decide.{Seen, alongOf, moreOf, keptOf, pushedOf, poppedOf, changedOf, againOf, Ruled, ruled}
 use Rattle.machine.specs.Walk.{putIn}
 use Rattle.machine.proofs.Labels.{along-is}
 use Rattle.machine.proofs.Room.{room}

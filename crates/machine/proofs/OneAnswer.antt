@@ -18,11 +18,11 @@ use Rattle.order.specs.Trees.{Tree, cells, recordsOf}
 use Rattle.program.specs.Says.{Given, fault, Accepts, Says, accepted}
 use Rattle.program.proofs.CheckSays.{determined, accepts-unique}
 use Rattle.moves.specs.Places.{Fits}
-use Rattle.moves.specs.Stores.{Reason, number, Answer, ok, no, Store, Sized}
+use Rattle.moves.specs.Stores.{number, Answer, ok, no, Store}
 use Rattle.moves.specs.Step.{step, stepBack, start}
 use Rattle.moves.specs.Runs.{stopNumber}
 use Rattle.moves.specs.Runs as runs
-use Rattle.moves.proofs.Theorems.{back-undoes-forward, forward-undoes-back, run-undone, run-back-undone, run-fits}
+use Rattle.moves.proofs.Theorems.{back-undoes-forward, forward-undoes-back}
 use Rattle.machine.specs.declared.Told.{Told}
 use Rattle.machine.specs.declared.Told.the-variants.{Done}
 use Rattle.machine.specs.Answers.{Gives, done, Before, program, size, place, Ready, StepSays, refused, stopped, arrived, RunSays, ran, StartSays, started}

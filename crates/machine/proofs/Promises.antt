@@ -2,7 +2,7 @@
 --     step-undone, back-undone          a step back after a step that was done answers the former place and store; and the other way round
 --     run-undone                        as many steps back as a run made answer the former place and store
 use Prim.Native.Nat.{ℕ}
-use mathlib.Core.Path.{_≡_, refl, sym, ap, ap₂, _∙_, subst}
+use mathlib.Core.Path.{_≡_, sym, ap, ap₂, _∙_, subst}
 use mathlib.Core.List.{List}
 use lib.ListN.{length, getD}
 use lib.IntN.{pos}
@@ -11,9 +11,7 @@ use mir.Val.{SFits}
 use contract.Lifetimes.{Lfts}
 use Rattle.codes.specs.Codes.{AllBytes}
 use Rattle.place.specs.declared.Place.{Place as Held}
-use Rattle.place.specs.Places.{Place}
 use Rattle.place.specs.Slots.{held}
-use Rattle.order.specs.Trees.{Tree}
 use Rattle.moves.specs.Stores.{Store, Sized}
 use Rattle.moves.specs.Step.{step as forward, stepBack}
 use Rattle.moves.specs.Runs.{stopNumber, run as running, runBack}
@@ -21,7 +19,7 @@ use Rattle.moves.specs.Runs as runs
 use Rattle.moves.proofs.Theorems as theorems
 use Rattle.machine.specs.declared.Told.{Told}
 use Rattle.machine.specs.declared.Told.the-variants.{Done}
-use Rattle.machine.specs.Answers.{Gives, done, Before, Ready, StepSays, RunSays, refused, ran}
+use Rattle.machine.specs.Answers.{Gives, done, Before, StepSays, RunSays, refused, ran}
 use Rattle.machine.proofs.Giving.{gives-done}
 use Rattle.machine.proofs.OneAnswer.{run-one, back-after-step, step-after-back}
 use Rattle.machine.proofs.step.Reads as step

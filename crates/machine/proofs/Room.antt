@@ -1,6 +1,5 @@
 -- A place that fits an accepted program has at most 1,104 frames: 16 constructs open at once, 64 calls.
-use Prim.Native.Nat.{ℕ, zero, suc, _+_, _*_, _≤_, max}
-use mathlib.Core.Path.{_≡_, refl, sym, ap, _∙_}
+use Prim.Native.Nat.{ℕ, zero, suc, _+_, _*_, _≤_}
 use mathlib.Core.List.{List, [], _∷_, _++_}
 use lib.ListN.{length, getD, length-append}
 use native.Mathlib.Omega.{arith}
@@ -8,7 +7,6 @@ use Rattle.order.specs.Trees.{Stmt, setS, skipS, callS, uncallS, ifS, fromS, Bl
 use Rattle.order.proofs.OrderOpen.{openS, openB, openP, nested-open}
 use Rattle.program.specs.Says.{Accepts}
 use Rattle.moves.specs.Edges.{Frame, inThen, inElse, inDo, inLoop}
-use Rattle.moves.specs.Places.{Place, Fits}
 use Rattle.moves.proofs.Cuts.{Cut, Sits}
 use Rattle.moves.proofs.Rows.{Row, around, rowsS, rowsB, rowsP, rowsOf, noRow, prog}
 use Rattle.moves.proofs.View.{stack, view}

@@ -1,28 +1,28 @@
 -- A SET read from the bytes of an accepted file, with its table of arrays, is the document's assignment.
-use Prim.Native.Nat.{ℕ, zero, suc, _+_, _≤_, _<_}
-use mathlib.Core.Path.{_≡_, refl, sym, ap, ap₂, _∙_}
+use Prim.Native.Nat.{ℕ, zero, suc, _+_, _<_}
+use mathlib.Core.Path.{_≡_, refl, ap₂, _∙_}
 use mathlib.Core.Bool.{Bool, true, false, cond}
-use mathlib.Core.List.{List, [], _∷_}
+use mathlib.Core.List.{List}
 use lib.ListN.{length, getD, set as put}
-use lib.Dec.{ltb, eqb}
+use lib.Dec.{eqb}
 use lib.IntN.{ℤ, pos, negsuc}
 use native.Mathlib.Omega.{arith}
 use borrow.Author.Tests.{ne-eqb}
-use Rattle.expr.specs.Tree.{Expr, Arrays, Worth, eval}
+use Rattle.expr.specs.Tree.{Expr, eval}
 use Rattle.expr.specs.Bytes.{parse}
 use Rattle.expr.specs.Answers.{arraysOf, worthAt}
 use Rattle.expr.proofs.Agree.{eval-agree}
 use Rattle.place.specs.Slots.{dirNumber}
-use Rattle.records.specs.Records.{Target, cell, entry, Record, assign, kind}
+use Rattle.records.specs.Records.{Target, cell, entry, assign, kind}
 use Rattle.order.specs.Trees.{Tree, recordsOf}
 use Rattle.records.specs.Faults.{word}
 use Rattle.records.specs.Reading.{recordAs}
 use Rattle.records.specs.Walk.{offsets}
 use Rattle.moves.specs.Labels.{at}
 use Rattle.moves.specs.Places.{Dir, down, up}
-use Rattle.moves.specs.Stores.{Answer, ok, no, badIndex, bind, Store, layout, answered, evaluated, applied, operator, entryAt, cellOf, assigned}
+use Rattle.moves.specs.Stores.{ok, bind, Store, layout, answered, evaluated, applied, operator, entryAt, cellOf, assigned}
 use Rattle.decide.specs.Gates.{Leads}
-use Rattle.decide.specs.Sets.{operatorAt, worked, entryBy, setTo, setEntry, setAt}
+use Rattle.decide.specs.Sets.{operatorAt, entryBy, setTo, setEntry, setAt}
 
 operator-is : (o : ℕ) (d : Dir) → operatorAt o (dirNumber d) ≡ operator o d
 operator-is o down = refl

@@ -1,24 +1,23 @@
 -- The start that is computed from the table is the document's.
 use Prim.Native.Nat.{ℕ}
-use mathlib.Core.Path.{_≡_, refl, sym, ap, _∙_, subst}
+use mathlib.Core.Path.{_≡_, refl, sym, ap, _∙_}
 use mathlib.Core.Bool.{Bool, true, false}
-use mathlib.Core.List.{List, [], _∷_, _++_, map}
+use mathlib.Core.List.{List, [], _++_, map}
 use lib.ListN.{length}
 use native.Mathlib.Omega.{arith}
 use Rattle.place.specs.declared.Place.{Place as Held}
-use Rattle.place.specs.Places.{Dir, down, up, opp, Frame, frameKind, frameLabel}
+use Rattle.place.specs.Places.{Dir, up, opp, Frame, frameKind, frameLabel}
 use Rattle.place.specs.Slots.{dirNumber, slots, held}
 use Rattle.place.specs.Methods.{blankOf, movedOf}
 use Rattle.place.proofs.Laws.{blank-held}
-use Rattle.order.specs.Trees.{Tree, procedures}
+use Rattle.order.specs.Trees.{Tree}
 use Rattle.program.specs.Says.{given, Accepts, Says}
-use Rattle.program.specs.Arrays.{arraysAt}
 use Rattle.program.specs.declared.Checked.{Checked}
 use Rattle.program.specs.declared.Checked.the-variants.{Accepted, Refused as RefusedFile}
-use Rattle.program.proofs.CheckSays.{TreeOf, accepted-of, refused-of, fault-some}
+use Rattle.program.proofs.CheckSays.{accepted-of, refused-of, fault-some}
 use Rattle.moves.specs.Step.{start}
 use Rattle.moves.proofs.Linked.{Prog, side, gateL}
-use Rattle.moves.proofs.Cuts.{gap, leave, in-main, Sits}
+use Rattle.moves.proofs.Cuts.{gap, leave, in-main}
 use Rattle.moves.proofs.Loop.{met-gap, gate-pos, fit-gate}
 use Rattle.moves.proofs.Rows.{prog}
 use Rattle.moves.proofs.Gaps.{tip}
@@ -26,8 +25,7 @@ use Rattle.moves.proofs.View.{stack, view, enter-is}
 use Rattle.moves.proofs.Accepted.{accepted-wf}
 use Rattle.table.specs.Table.{tableOf}
 use Rattle.table.proofs.Tabled.{tabled}
-use Rattle.machine.specs.declared.Told.{Told}
-use Rattle.machine.specs.declared.Told.the-variants.{Done, Refused}
+use Rattle.machine.specs.declared.Told.the-variants.{Refused}
 use Rattle.machine.specs.declared.Started.{Started}
 use Rattle.decide.specs.Decide.{gateOf, alongOf}
 use Rattle.machine.specs.Whole.{numberOf, startOf}

@@ -1,20 +1,19 @@
 -- The decision does what the document's step says of every fitting place; and a run by decisions is the document's run.
 use Prim.Native.Nat.{ℕ, zero, suc, _+_, _-_, _≤_, _<_}
-use mathlib.Core.Path.{_≡_, refl, sym, ap, ap₂, _∙_, subst}
-use mathlib.Core.Bool.{Bool, true, false, cond}
+use mathlib.Core.Path.{_≡_, refl, sym, ap, _∙_, subst}
+use mathlib.Core.Bool.{Bool, cond}
 use mathlib.Core.List.{List, [], _∷_, _++_, map}
 use lib.ListN.{length}
 use lib.Dec.{eqb}
 use native.Mathlib.Omega.{arith}
-use native.Mathlib.Numerals.{add-one}
 use borrow.Author.Tests.{eq-eqb, ne-eqb}
 use Rattle.place.specs.declared.Place.{Place as Held}
 use Rattle.place.specs.declared.Top.{Top}
 use Rattle.place.specs.Places.{Dir, down, up, opp, Frame, frameKind, frameLabel, Place}
 use Rattle.place.specs.Slots.{dirNumber, slots, held}
-use Rattle.place.specs.Methods.{topAt, topIn}
+use Rattle.place.specs.Methods.{topAt}
 use Rattle.place.proofs.Laws.{top-held, top-held-none}
-use Rattle.records.specs.Records.{begin, end, call, uncall, kind}
+use Rattle.records.specs.Records.{call, uncall, kind}
 use Rattle.order.specs.Trees.{Tree, recordsOf}
 use Rattle.program.specs.Says.{Accepts}
 use Rattle.records.specs.Faults.{word}
@@ -22,18 +21,17 @@ use Rattle.records.specs.Reading.{recordAs}
 use Rattle.moves.specs.Places.{calls, Fits}
 use Rattle.moves.specs.Stores.{Reason, atEnd, wrongValue, zeroDivisor, badIndex, tooDeep, number, Answer, ok, no, Store}
 use Rattle.moves.specs.Step.{step}
-use Rattle.moves.specs.Runs.{Ran, Stop, made, because, stopNumber, onward, runBy, run}
-use Rattle.moves.proofs.Linked.{Rec, nameL, beginL, endL, setL, skipL, ifL, elseL, fiL, fromL, loopL, untilL, callL, uncallL, Prog, forget, side}
-use Rattle.moves.proofs.Cuts.{Cut, met, leave, enter′, return′, port, through, cstep, Local, Wf, by-call, by-uncall, Sits}
+use Rattle.moves.specs.Runs.{Ran, stopNumber, onward, runBy, run}
+use Rattle.moves.proofs.Linked.{Rec, nameL, beginL, endL, setL, skipL, ifL, elseL, fiL, fromL, loopL, untilL, callL, uncallL, Prog, side}
+use Rattle.moves.proofs.Cuts.{Cut, met, leave, enter′, return′, port, through, cstep, Local, by-call, by-uncall, Sits}
 use Rattle.moves.proofs.Loop.{fit-gate, lo-met, hi-met, not-begin, not-end}
 use Rattle.moves.proofs.Rows.{prog}
 use Rattle.moves.proofs.Gaps.{tip}
 use Rattle.moves.proofs.View.{stack, view, seen, side-call, side-uncall, calls-stack}
 use Rattle.moves.proofs.Sees.{sees}
-use Rattle.moves.proofs.Match.{Placed, placed-fits, fits-placed}
+use Rattle.moves.proofs.Match.{placed-fits, fits-placed}
 use Rattle.table.proofs.Tabled.{Tabled}
-use Rattle.decide.specs.declared.Move.{Move}
-use Rattle.decide.specs.Decide.{Seen, lookIn, otherOf, ledOf, enteredOf, returnedOf, Ruled, ruled, Rules, ruleOf}
+use Rattle.decide.specs.Decide.{Seen, lookIn, ledOf, enteredOf, returnedOf, Ruled, ruleOf}
 use Rattle.machine.specs.Walk.{spotOf, afterOf, Gone, gone, goOf}
 use Rattle.decide.specs.Gates.{procAt}
 use Rattle.decide.proofs.DecideCases.{rule-call, rule-uncall, rule-return}

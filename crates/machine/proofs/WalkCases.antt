@@ -1,12 +1,10 @@
 -- The loop of a run, turn by turn: what is left to run is the run's. Assumes nothing.
 use mathlib.Core.Path.{_≡_, refl, sym, ap, _∙_}
 use mathlib.Core.List.{List}
-use mathlib.Core.Bool.{Bool, true, false, cond}
-use Prim.Native.Nat.{ℕ, zero, suc, _+_, _-_, _≤_, _<_}
+use Prim.Native.Nat.{ℕ, suc, _+_, _-_, _≤_, _<_}
 use native.Mathlib.Numerals.{add-one}
 use native.Mathlib.Omega.{arith}
 use borrow.Author.Tests.{eq-eqb, ne-eqb, lt-ltb, le-ltb, le-leb, lt-leb}
-use lib.Dec.{ltb, leb, eqb}
 use lib.ListN.{getD, set}
 use Rattle.place.specs.declared.Place.{Place as Held}
 use Rattle.moves.specs.Stores.{Store}
@@ -14,7 +12,7 @@ use Rattle.decide.specs.declared.Spot.{Spot}
 use Rattle.decide.specs.declared.Move.{Move}
 use Rattle.decide.specs.Decide.{Seen, seen, Ruled, Rules}
 use Rattle.machine.specs.declared.walk.Went.{Went}
-use Rattle.machine.specs.Walk.{putIn, callsIn, callsOf, spotBy, spotOf, afterOf, Gone, gone, goOf, Goes}
+use Rattle.machine.specs.Walk.{putIn, callsIn, callsOf, spotBy, spotOf, Gone, goOf, Goes}
 
 pub put-near : (s : List ℕ) (i v : ℕ) → i < 1104 → set s i v ≡ putIn s i v
 unfolding putIn

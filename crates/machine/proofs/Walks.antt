@@ -3,15 +3,14 @@
 --     walk-refused                  from a start, after any walk, a step back is refused only at the start itself, with 30
 --     run-steps, run-back-steps     a run is that many single steps
 --     run-then, run-back-then       n steps made and then m are n + m
-use Prim.Native.Nat.{ℕ, zero, suc, _+_, _<_}
+use Prim.Native.Nat.{ℕ, suc, _+_, _<_}
 use mathlib.Core.Path.{_≡_, refl, sym, ap, ap₂, _∙_, subst}
 use mathlib.Core.List.{List}
-use mathlib.Core.Logic.{_↔_, _⊎_, inl, inr}
+use mathlib.Core.Logic.{_↔_, inl, inr}
 use mathlib.Core.Bool.{cond}
 use lib.ListN.{length, getD}
 use lib.Dec.{eqb}
 use lib.IntN.{pos}
-use native.Mathlib.Omega.{arith}
 use mir.Syntax.{w32}
 use mir.Val.{SFits}
 use Rattle.codes.specs.Codes.{AllBytes}

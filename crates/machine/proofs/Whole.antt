@@ -1,16 +1,14 @@
 -- What the public functions compute is what Answers says, for every file, struct and store.
 use Prim.Native.Nat.{ℕ, zero, suc, _+_, _≤_}
 use mathlib.Core.Path.{_≡_, refl, sym, ap, _∙_, subst}
-use mathlib.Core.Bool.{Bool, true, false, cond}
 use mathlib.Core.List.{List, [], _∷_, _++_, map, reverse, reverse-cons, append-assoc}
 use lib.ListN.{length, length-map, length-reverse}
 use lib.Seq.{getD-at}
-use lib.Dec.{eqb}
 use native.Mathlib.Omega.{arith}
-use borrow.Author.Tests.{eqb-true, eqb-false, le-leb}
+use borrow.Author.Tests.{le-leb}
 use Rattle.place.specs.declared.Place.{Place as Held}
 use Rattle.place.specs.Places.{Frame, frameKind, Place, turn}
-use Rattle.place.specs.Slots.{held, Decides}
+use Rattle.place.specs.Slots.{held}
 use Rattle.place.specs.Methods.{turnedOf}
 use Rattle.place.proofs.Laws.{turned-held, turned-twice}
 use Rattle.order.specs.Trees.{Tree, recordsOf, cells}
@@ -30,10 +28,8 @@ use Rattle.moves.proofs.Match.{fits-placed}
 use Rattle.moves.proofs.Undo.{turn-turn, turn-fits}
 use Rattle.table.specs.Table.{tableOf}
 use Rattle.table.proofs.Tabled.{tabled}
-use Rattle.fits.specs.Fits.{fitsIn}
 use Rattle.fits.proofs.FitsLaw.{fits-law}
 use Rattle.machine.specs.declared.Told.{Told}
-use Rattle.machine.specs.declared.Told.the-variants.{Refused}
 use Rattle.machine.specs.declared.Ran.{Ran}
 use Rattle.decide.specs.Decide.{ruleOf}
 use Rattle.machine.specs.Walk.{callsIn, callsOf, Gone, gone, goOf}
@@ -41,9 +37,8 @@ use Rattle.machine.specs.Copies.{padTo, widenTo}
 use Rattle.machine.specs.declared.walk.Went.{Went}
 use Rattle.machine.specs.Whole.{toldBy, staying, givenBack, Copied, CheckedRun}
 use Rattle.machine.specs.Whole as whole
-use Rattle.machine.specs.Answers.{Gives, numbered, Before, program, size, place, Ready, StepSays, refused, stopped, arrived, RunSays, ran}
+use Rattle.machine.specs.Answers.{Gives, Before, program, size, place, Ready, StepSays, refused, stopped, arrived, RunSays, ran}
 use Rattle.machine.proofs.Room.{room}
-use Rattle.machine.proofs.Steps.{walked}
 use Rattle.machine.proofs.Giving.{gives-refused, by-gives}
 use Rattle.machine.proofs.Copied.{walked-copied}
 

@@ -9,7 +9,7 @@ use native.Mathlib.Omega.{arith}
 use borrow.Author.Tests.{ltb-true}
 use Rattle.expr.specs.Tree.{known}
 use Rattle.records.specs.Records.{Record, end, else, fi, loop, until, Formed, FineFrom, thereTarget, ownTarget}
-use Rattle.records.specs.Reading.{free, there}
+use Rattle.records.specs.Reading.{free}
 use Rattle.order.specs.Trees.{Stmt, setS, skipS, callS, uncallS, ifS, fromS, Block, one, _then_, Tree, procedures, recordsS, recordsB, recordsP, recordsOf}
 use Rattle.program.specs.Says.{All, thereIn, Accepts}
 use Rattle.moves.proofs.Cuts.{Undoes, Wf}

@@ -5,7 +5,7 @@ use mathlib.Core.List.{List, _∷_, tail}
 use mathlib.Core.Bool.{Bool, not, cond}
 use lib.Dec.{eqb}
 use Rattle.expr.specs.Tree.{Expr}
-use Rattle.records.specs.Records.{Target, Record, names, begin, end, assign, if, else, fi, from, loop, until, call, uncall, skip, kind}
+use Rattle.records.specs.Records.{Target, Record, names, begin, end, assign, if, else, fi, from, loop, until, call, uncall, skip}
 use Rattle.order.specs.Trees.{Tree}
 use Rattle.moves.specs.Labels.{at}
 use Rattle.moves.specs.Edges.{Frame, inThen, inElse, inDo, frameKind}

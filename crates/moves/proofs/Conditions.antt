@@ -15,7 +15,7 @@ use Rattle.records.specs.Records.{Target, cell, entry, Record, names, begin, en
 use Rattle.order.specs.Trees.{Tree}
 use Rattle.moves.specs.Edges.{Frame, inThen, inElse, inDo, inLoop, called}
 use Rattle.moves.specs.Places.{Dir, down, up, going, calls}
-use Rattle.moves.specs.Stores.{Reason, atEnd, wrongValue, zeroDivisor, badIndex, tooDeep, Answer, ok, no, bind, Store, layout, reasonOf, answered, evaluated, holds, entryAt, cellOf, assigned}
+use Rattle.moves.specs.Stores.{Reason, atEnd, wrongValue, badIndex, tooDeep, Answer, ok, no, bind, Store, layout, reasonOf, answered, evaluated, holds, entryAt, cellOf, assigned}
 use Rattle.moves.specs.Step.{again}
 use Rattle.moves.specs.Reasons.{Misses, Stops, in-read, misses, Faults, in-only, in-index, in-entry, Meets, ends, then-false, else-true, outside-false, again-true, by-zero, no-entry, deep}
 use Rattle.moves.proofs.Acts.{Act, assigns, moves, chooses, closes, opens, tests, enters, returns, nothing, act, wanted}

@@ -2,7 +2,7 @@
 --     zero-divisor      an operator answers the zero divisor only for `/` and `%` by 0
 --     stops-is          eval stops with f exactly if f is what first goes wrong
 use Prim.Native.Nat.{ℕ, zero, suc, _+_, _≤_}
-use mathlib.Core.Path.{_≡_, refl, ap, sym, _∙_, subst}
+use mathlib.Core.Path.{_≡_, refl, ap, _∙_, subst}
 use mathlib.Core.Bool.{Bool, true, false, cond}
 use mathlib.Core.Logic.{_⊎_, inl, inr, _↔_}
 use lib.ListN.{getD}
@@ -10,7 +10,7 @@ use lib.Dec.{ltb}
 use lib.IntN.{ℤ, pos, negsuc}
 use native.Mathlib.Omega.{arith}
 use borrow.Author.Tests.{ltb-true, ltb-false}
-use Rattle.values.specs.Values.{Value, is, zeroDivisor as noValue, isTrue, divided, applyOp}
+use Rattle.values.specs.Values.{Value, is, zeroDivisor as noValue, divided, applyOp}
 use Rattle.expr.specs.Tree.{Expr, con, var, read, bin, Fault, byZero, badIndex as outside, Worth, value, stop, worthOf, element, eval}
 use Rattle.expr.specs.Agreement.{both, indexed}
 use Rattle.order.specs.Trees.{Tree}

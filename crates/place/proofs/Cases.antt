@@ -8,7 +8,7 @@ use lib.ListN.{getD, set}
 use borrow.Author.Tests.{le-leb, lt-leb, lt-ltb, le-ltb, eq-eqb, ne-eqb}
 use Rattle.place.specs.declared.Place.{Place as Held}
 use Rattle.place.specs.declared.Top.{Top}
-use Rattle.place.specs.Methods.{zeros, blankOf, some, flipped, turnedOf, withFrames, pushedOf, poppedOf, changedOf, topAt, topIn}
+use Rattle.place.specs.Methods.{zeros, blankOf, some, turnedOf, withFrames, pushedOf, poppedOf, changedOf, topAt, topIn}
 
 -- ---- whether there is an innermost frame
 pub some-none : (n : ℕ) → n ≡ 0 → some n ≡ false

@@ -4,7 +4,7 @@
 --     held-seen         a struct with a direction, a count, kinds and unused slots as they must be holds the place seen in it
 --     plain-yes         so it is plain; plain-direction, -count, -kind, -unused-kinds and -unused-labels: and each plain one is such
 --     plain-of          the test `plainOf` decides `Plain`
-use mathlib.Core.Path.{_≡_, refl, sym, ap, _∙_, subst}
+use mathlib.Core.Path.{_≡_, refl, sym, ap, _∙_}
 use borrow.Author.Count.{below-more}
 use mathlib.Core.Bool.{Bool, true, false, not, cond}
 use lib.Dec.{eqb, leb}
@@ -13,7 +13,7 @@ use mathlib.Core.List.{List, [], _∷_, _++_, map, reverse, reverse-cons, append
 use Prim.Native.Nat.{ℕ, zero, suc, _+_, _-_, _≤_, _<_}
 use native.Mathlib.Omega.{arith}
 use lib.ListN.{length, length-map, getD, take, drop, replicate, length-append, length-reverse, length-drop, length-replicate, getD-replicate, take-append-drop}
-use lib.Seq.{getD-at, getD-drop, take-suc, ext-getD, getD-append-add, getD-take}
+use lib.Seq.{getD-at, getD-drop, take-suc, ext-getD, getD-append-add}
 use Rattle.place.specs.declared.Place.{Place as Held}
 use Rattle.place.specs.Places.{Dir, down, up, Frame, inThen, inElse, inDo, inLoop, called, frameKind, frameLabel, Place}
 use Rattle.place.specs.Slots.{dirNumber, slots, held, Plain, Decides, dirOf, frameOf, framesIn, seen, sameList, plainOf}

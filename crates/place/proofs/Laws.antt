@@ -4,8 +4,8 @@
 --     top-held, top-held-none                 the innermost frame
 --     turned-twice, popped-pushed             a turn and a push undone
 use mathlib.Core.Path.{_≡_, refl, sym, ap, _∙_}
-use mathlib.Core.List.{List, [], _∷_, _++_, map, reverse, reverse-cons, append-assoc}
-use Prim.Native.Nat.{ℕ, zero, suc, _+_, _-_, _≤_, _<_}
+use mathlib.Core.List.{List, [], _∷_, map, reverse, reverse-cons, append-assoc}
+use Prim.Native.Nat.{ℕ, zero, suc, _-_, _<_}
 use native.Mathlib.Numerals.{add-one}
 use native.Mathlib.Omega.{arith}
 use mathlib.Core.Bool.{true}
@@ -14,7 +14,6 @@ use borrow.Author.Tests.{lt-ltb}
 use lib.ListN.{length, length-map, getD, set, replicate, length-reverse}
 use lib.Seq.{set-at, getD-at}
 use Rattle.place.specs.declared.Place.{Place as Held}
-use Rattle.place.specs.declared.Top.{Top}
 use Rattle.place.specs.Places.{Dir, down, up, Frame, frameKind, frameLabel, Place, turn}
 use Rattle.place.specs.Slots.{dirNumber, slots, held}
 use Rattle.place.specs.Methods.{zeros, blankOf, flipped, turnedOf, movedOf, pushedOf, poppedOf, changedOf, topAt, topIn}

@@ -1,6 +1,6 @@
 -- Document 01, 'Labels, places, moves': directions, frames and places.
-use Prim.Native.Nat.{ℕ, zero, suc, _+_, _-_}
-use mathlib.Core.List.{List, [], _∷_, _++_}
+use Prim.Native.Nat.{ℕ}
+use mathlib.Core.List.{List}
 
 pub data Dir : Type 0 where
   down up : Dir

@@ -1,7 +1,7 @@
 -- A row of pieces is written one piece after another.
 --     piece, joined    a piece and a row, two rows
 --     whole            where all of it fits, the row's bytes stand at the position
-use mathlib.Core.Path.{_≡_, refl, sym, ap, _∙_}
+use mathlib.Core.Path.{_≡_, refl, ap}
 use mathlib.Core.Bool.{Bool, true, false, cond}
 use mathlib.Core.List.{List, [], _∷_, _++_}
 use Prim.Native.Nat.{ℕ, zero, suc, _+_, _-_, _≤_, _<_}

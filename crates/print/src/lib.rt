@@ -1,7 +1,7 @@
 // The lines that `run` and `bench` print, written into a lent buffer at a position; each answers the position after what it wrote.
 ghost use mathlib.Core.Path.{_≡_};
-ghost use Prim.Native.Nat.{ℕ, min};
-ghost use Rattle.print.specs.Lines.{putAll, afterAll, pair, refusedLine, stepsLine, way, atLine, frameLine, frameLines, cellLine, shown, cellLines, acceptedLine};
+ghost use Prim.Native.Nat.{min};
+ghost use Rattle.print.specs.Lines.{putAll, afterAll, pair, refusedLine, stepsLine, atLine, frameLine, frameLines, cellLine, shown, cellLines, acceptedLine};
 
 // Two numbers with words before, between and after them.
 fn put_pair(

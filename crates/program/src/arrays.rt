@@ -1,8 +1,7 @@
 // The table of a file's arrays: 16 starts among the cells, then 16 lengths.
 ghost use mathlib.Core.Path.{_≡_};
-ghost use Prim.Native.Nat.{_≤_, min};
+ghost use Prim.Native.Nat.{_≤_};
 ghost use lib.Seq.{sets};
-ghost use lib.ListN.{replicate};
 ghost use Rattle.records.specs.Faults.{word};
 ghost use Rattle.records.specs.Reading.{shortsAt};
 ghost use Rattle.program.specs.Arrays.{arrayCount, startsFrom, arraysAt};

@@ -4,8 +4,6 @@
 use mathlib.Core.Path.{_≡_}
 use contract.Lifetimes.{Lfts}
 use Rattle.codes.specs.Codes.{AllBytes}
-use Rattle.saved.specs.declared.Found.{Found}
-use Rattle.saved.specs.declared.Saved.{Saved}
 use Rattle.saved.proofs.OneAnswer.{read-one, save-one}
 use Rattle.saved.proofs.read.Reads as read
 use Rattle.saved.proofs.save.Reads as save

@@ -2,8 +2,8 @@
 --     held-at        the struct that a file's bytes give holds the place that they give
 --     encode-seen    the file of the place seen in a struct, from the struct's own fields
 --     length-encode  how long a file is
-use mathlib.Core.Path.{_≡_, refl, sym, ap, _∙_}
-use mathlib.Core.Bool.{Bool, true, false, cond}
+use mathlib.Core.Path.{_≡_, refl, sym, ap}
+use mathlib.Core.Bool.{true}
 use mathlib.Core.List.{List, [], _∷_, _++_, map, flatMap}
 use Prim.Native.Nat.{ℕ, zero, suc, _+_, _*_, _≤_, _<_}
 use native.Mathlib.Omega.{arith}
@@ -12,11 +12,11 @@ use lib.IntN.{ℤ}
 use lib.ListN.{length, getD, drop, length-append}
 use lib.Seq.{drop-drop}
 use borrow.Author.Tests.{leb-true}
-use Rattle.codes.specs.Codes.{bytes16, word16}
+use Rattle.codes.specs.Codes.{word16}
 use Rattle.place.specs.declared.Place.{Place as Held}
 use Rattle.place.specs.Places.{Frame, frameKind, frameLabel, Place}
-use Rattle.place.specs.Slots.{slots, held, Plain, dirNumber, dirOf, frameOf, framesIn, seen}
-use Rattle.place.proofs.Held.{kind-of, label-of, dir-of, length-frames, plain-seen, plain-kind, plain-direction}
+use Rattle.place.specs.Slots.{held, Plain, framesIn, seen}
+use Rattle.place.proofs.Held.{kind-of, label-of, dir-of, length-frames, plain-kind, plain-direction}
 use Rattle.session.specs.Session.{encodeStore, encode}
 use Rattle.session.specs.Parts.{encodeFrames, encodeHead, encodeCells}
 use Rattle.session.specs.Reader.{kindsOk, framesAt, placeAt}

@@ -3,10 +3,9 @@ use mathlib.Core.Path.{_≡_, refl}
 use mathlib.Core.List.{List, [], _∷_, _++_, flatMap}
 use Prim.Native.Nat.{ℕ}
 use lib.IntN.{ℤ, pos, negsuc}
-use Rattle.place.specs.Places.{down, up, inThen, inElse, inDo, inLoop, called, frameKind, frameLabel, Place}
+use Rattle.place.specs.Places.{up, inLoop, called, Place}
 use Rattle.session.specs.Session.{encode}
-use Rattle.session.specs.Parts.{encodeFrames, encodeCells}
-use Rattle.session.specs.Reader.{Reading, malformed, found, headOk, kindsOk, storeOk, framesAt, cellsFrom, reading}
+use Rattle.session.specs.Reader.{malformed, found, headOk, kindsOk, storeOk, framesAt, cellsFrom, reading}
 
 -- up from 5 to 258, in s2 of the loop at 3 in the call at 700
 abbrev pub place : Place

@@ -5,33 +5,30 @@
 --     malformed-reads   a malformed file says nothing; reads-nothing: and a file of bytes that says nothing is malformed
 --     encode-injective  two different places or stores have different files
 use mathlib.Core.Path.{_≡_, refl, sym, ap, _∙_, subst}
-use mathlib.Core.Bool.{Bool, true, false, cond}
-use mathlib.Core.List.{List, [], _∷_, _++_, append-assoc, append-nil, flatMap}
-use Prim.Native.Nat.{ℕ, zero, suc, _+_, _*_, _-_, _/_, _%_, _^_, _≤_, _<_}
-use native.Mathlib.Nat.{add-zero}
+use mathlib.Core.Bool.{true}
+use mathlib.Core.List.{List, [], _∷_, _++_, flatMap}
+use Prim.Native.Nat.{ℕ, zero, suc, _+_, _*_, _-_, _/_, _^_, _≤_, _<_}
 use native.Mathlib.Omega.{arith}
-use lib.Dec.{eqb, leb}
+use lib.Dec.{leb}
 use lib.IntN.{ℤ}
-use lib.ListN.{length, getD, drop, length-append, length-drop}
-use lib.Seq.{drop-drop, drop-at, drop-length, getD-drop}
+use lib.ListN.{length, getD, drop, length-drop}
+use lib.Seq.{drop-drop, drop-at, getD-drop}
 use borrow.Author.Tests.{le-leb, leb-true}
-use mir.Syntax.{w32}
-use mir.Val.{SFits}
 use Rattle.codes.specs.Codes.{bytes16, cellBytes, word16, AllBytes}
 use Rattle.codes.specs.Numbers.{cellAt}
 use Rattle.codes.proofs.Digits.{number16}
-use Rattle.codes.proofs.Rows.{short-lt, short-bytes, short-back, cell-fits, cell-bytes, cell-back, two-bytes}
+use Rattle.codes.proofs.Rows.{short-lt, short-bytes, cell-fits, cell-bytes, cell-back, two-bytes}
 use Rattle.place.specs.Places.{Frame, frameKind, frameLabel, Place}
-use Rattle.place.specs.Slots.{dirNumber, dirOf, frameOf}
+use Rattle.place.specs.Slots.{dirNumber}
 use Rattle.place.proofs.Held.{kind-of, label-of, dir-of, dir-back, frame-back, dir-small, kind-small}
-use Rattle.session.specs.Session.{encodePlace, encodeStore, encode, Fit, Reads}
+use Rattle.session.specs.Session.{encodeStore, encode, Fit, Reads}
 use Rattle.session.specs.Parts.{encodeFrames, encodeHead, encodeCells, LabelsFit, CellsFit}
 use Rattle.session.specs.Reader.{Reading, malformed, found, headOk, kindsOk, storeOk, framesAt, cellsFrom, placeAt, cellsStart, cellCount, cellsAt, reading}
 use Rattle.session.specs.Answers.{isFound}
 use Rattle.session.proofs.Rows.{word-at, word-after}
-use Rattle.session.proofs.Cases.{both, HeadRight, StoreRight, Right, head-whole, store-whole, all-there, found-is}
+use Rattle.session.proofs.Cases.{both, Right, head-whole, store-whole, all-there, found-is}
 use Rattle.session.proofs.Saving.{length-cells}
-use Rattle.session.proofs.Frames.{length-framesAt, length-encodeFrames, length-encodeCells, length-encode}
+use Rattle.session.proofs.Frames.{length-framesAt, length-encodeFrames, length-encode}
 
 -- ---- from the bytes to what they say
 bytes-drop : (s : List ℕ) → AllBytes s → (k : ℕ) → AllBytes (drop k s)

@@ -5,22 +5,22 @@
 --     read-saved    what is read and then saved is the same bytes
 use mathlib.Core.Path.{_≡_, refl, sym, ap, _∙_, subst}
 use mathlib.Core.Bool.{Bool, true, false, cond}
-use mathlib.Core.List.{List, [], _∷_, _++_}
-use Prim.Native.Nat.{ℕ, zero, suc, _+_, _*_, _^_, _≤_, _<_}
+use mathlib.Core.List.{List, [], _++_}
+use Prim.Native.Nat.{ℕ, zero, suc, _+_, _^_, _≤_, _<_}
 use native.Mathlib.Omega.{arith}
-use lib.Dec.{eqb, leb}
+use lib.Dec.{leb}
 use lib.IntN.{ℤ}
 use lib.ListN.{length, getD, take, drop}
 use lib.Seq.{sets, sets-eq, take-at, drop-at}
 use borrow.Author.Tests.{le-leb, lt-leb, leb-true, leb-false, eq-eqb}
 use Rattle.codes.specs.Codes.{AllBytes}
 use Rattle.place.specs.declared.Place.{Place as Held}
-use Rattle.place.specs.Places.{Frame, frameLabel, Place}
-use Rattle.place.specs.Slots.{held, Plain, Decides, frameOf, framesIn, seen, plainOf}
+use Rattle.place.specs.Places.{Place}
+use Rattle.place.specs.Slots.{held, Plain, Decides, framesIn, seen, plainOf}
 use Rattle.place.proofs.Held.{label-of, length-frames, seen-held, plain-seen, plain-count, plain-of}
-use Rattle.session.specs.Session.{encode, Fit, Reads}
+use Rattle.session.specs.Session.{encode, Fit}
 use Rattle.session.specs.Parts.{LabelsFit, CellsFit}
-use Rattle.session.specs.Reader.{Reading, malformed, found, reading}
+use Rattle.session.specs.Reader.{Reading, found, reading}
 use Rattle.session.specs.Answers.{placeOf, cellsOf, filled, savedOf}
 use Rattle.session.proofs.Reading.{reading-sound, reading-encode}
 

@@ -4,19 +4,16 @@
 --     fill-go, fill-end                the loop that puts a column into slots, from the innermost frame out
 use mathlib.Core.Path.{_≡_, refl, sym, ap, _∙_}
 use mathlib.Core.Bool.{Bool, true, false, cond}
-use mathlib.Core.List.{List, [], _∷_, _++_, reverse, reverse-cons, append-assoc}
-use Prim.Native.Nat.{ℕ, zero, suc, _+_, _*_, _-_, _≤_, _<_}
+use mathlib.Core.List.{List, [], _∷_, _++_, reverse, reverse-cons}
+use Prim.Native.Nat.{ℕ, zero, suc, _+_, _-_, _≤_, _<_}
 use native.Mathlib.Nat.{add-zero}
 use native.Mathlib.Omega.{arith}
 use lib.Dec.{leb}
-use lib.IntN.{ℤ}
 use lib.ListN.{length, getD, set, drop, replicate, length-replicate, replicate-append-replicate}
 use lib.Seq.{getD-drop, drop-drop, set-at, append-snoc}
 use borrow.Author.Tests.{le-leb, lt-leb}
-use mir.Syntax.{w32}
-use mir.Val.{toZ}
 use Rattle.codes.specs.Codes.{word16}
-use Rattle.codes.specs.Numbers.{word32, cellAt}
+use Rattle.codes.specs.Numbers.{cellAt}
 use Rattle.place.specs.Slots.{slots}
 use Rattle.place.specs.Methods.{zeros}
 use Rattle.session.specs.Reader.{kindsOk}

@@ -1,23 +1,22 @@
 -- What reading and saving answer, in the terms that the code has in hand. Assumes nothing.
 use mathlib.Core.Path.{_≡_, refl, sym, ap, _∙_}
 use mathlib.Core.Bool.{Bool, true, false, not, cond}
-use mathlib.Core.List.{List, [], _∷_, _++_, append-nil}
+use mathlib.Core.List.{List, _++_, append-nil}
 use Prim.Native.Nat.{ℕ, zero, suc, _+_, _*_, _-_, _/_, _≤_, _<_}
 use native.Mathlib.Omega.{arith}
-use lib.Dec.{eqb, leb}
+use lib.Dec.{leb}
 use lib.IntN.{ℤ}
 use lib.ListN.{length, getD, drop}
 use lib.Seq.{sets, sets-eq, drop-length}
 use borrow.Author.Tests.{le-leb, lt-leb, eq-eqb, ne-eqb, leb-true, leb-false, not-true, not-false}
 use Rattle.codes.specs.Codes.{word16}
 use Rattle.place.specs.declared.Place.{Place as Held}
-use Rattle.place.specs.Slots.{slots, held, Plain, Decides, seen, plainOf}
+use Rattle.place.specs.Slots.{slots, Plain, Decides, seen, plainOf}
 use Rattle.place.specs.Methods.{blankOf}
 use Rattle.place.proofs.Held.{decided, plain-of, plain-count, yes, length-frames}
 use Rattle.session.specs.Session.{encode, encodeStore}
-use Rattle.session.specs.Parts.{encodeHead}
 use Rattle.session.specs.Reader.{Reading, malformed, found, placeAt, cellsAt, cellCount, cellsFrom, reading}
-use Rattle.session.specs.Answers.{isFound, placeOf, cellsOf, filled, sizeOf, savedOf, slotBytes, column, heldAt}
+use Rattle.session.specs.Answers.{isFound, placeOf, cellsOf, filled, sizeOf, savedOf, column, heldAt}
 use Rattle.session.proofs.Writing.{on}
 use Rattle.session.proofs.Cases.{Right, found-is}
 use Rattle.session.proofs.Frames.{held-at, placeBytes, encode-seen, length-encode, length-slotBytes}

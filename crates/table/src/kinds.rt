@@ -2,7 +2,7 @@
 ghost use mathlib.Core.Path.{_≡_};
 ghost use Prim.Native.Nat.{_+_, _%_, _^_, _<_, _≤_};
 ghost use lib.ListN.{length};
-ghost use Rattle.table.specs.Table.{blank, noted, placed, before, opener, outside, begun, ended, inside, opened, turned, closed, entered, nextOwner, filled, labelled};
+ghost use Rattle.table.specs.Table.{blank, noted, placed, opener, outside, begun, ended, inside, opened, turned, closed, entered, nextOwner, filled, labelled};
 
 // An entry as a number, with the bound that sums of it need.
 pub fn wide(v: u16) -> usize

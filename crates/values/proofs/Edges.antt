@@ -1,9 +1,9 @@
 -- The edges that document 01, 'Values', names, as one table. Its starred lines stand in program/proofs/Starred.
 use mathlib.Core.Path.{_≡_, refl}
-use mathlib.Core.List.{List, [], _∷_}
+use mathlib.Core.List.{[], _∷_}
 use Prim.Native.Nat.{ℕ}
 use lib.IntN.{ℤ, pos, negℤ}
-use Rattle.values.specs.Values.{Value, is, zeroDivisor, applyOp, wrap, floorDiv, floorMod}
+use Rattle.values.specs.Values.{is, zeroDivisor, applyOp, wrap, floorDiv, floorMod}
 
 abbrev - : ℕ → ℤ
 - n = negℤ (pos n)

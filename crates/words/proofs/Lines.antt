@@ -7,7 +7,7 @@ use mathlib.Core.List.{List, [], _∷_}
 use Prim.Native.Nat.{ℕ, zero, suc, _+_, _-_, _≤_, _<_}
 use native.Mathlib.Numerals.{add-one}
 use native.Mathlib.Omega.{arith}
-use lib.Dec.{ltb, eqb}
+use lib.Dec.{ltb}
 use lib.IntN.{ℤ, pos, negsuc}
 use lib.Signed.{ltZ}
 use lib.ListN.{length, getD, drop, set, length-set, List·getD-eq-default, drop-of-length-le}

@@ -1,7 +1,6 @@
 // Numbers as text: written into a lent buffer at a position, and read at one; bytes in hexadecimal; lines. What the programs print and read with.
 ghost use mathlib.Core.Path.{_≡_};
-ghost use Prim.Native.Nat.{ℕ, _+_, _*_, _-_, _≤_, _<_, min};
-ghost use mathlib.Core.List.{List};
+ghost use Prim.Native.Nat.{_+_, _*_, _-_, _≤_, _<_, min};
 ghost use lib.Dec.{leb};
 ghost use lib.ListN.{length, getD, drop, set};
 ghost use lib.Seq.{sets};

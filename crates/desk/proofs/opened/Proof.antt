@@ -1,5 +1,4 @@
 -- `desk::opened` meets its contract: a store of the program's size is lent to the reading. Assumes nothing.
-use mathlib.Core.Path.{_≡_, sym, _∙_}
 use native.Mathlib.Omega.{arith}
 use borrow.Author.Needs.{needs}
 use Rattle.desk.proofs.Cases.{cells-limit, open-refused, open-settled}

@@ -1,5 +1,4 @@
 -- `desk::over` meets its contract. Assumes nothing.
-use mathlib.Core.Path.{sym, _∙_}
 use native.Mathlib.Omega.{arith}
 use borrow.Author.Needs.{needs}
 use Rattle.desk.proofs.Cases.{over-refused, over-accepted}

@@ -1,7 +1,6 @@
 -- `files::read_open` meets its contract and ends: each turn reads some of what is left. Assumes nothing.
 use mathlib.Core.Path.{_≡_}
 use Prim.Native.Nat.{_≤_, _-_}
-use native.Mathlib.Omega.{arith}
 use lib.ListN.{length}
 use borrow.Author.Needs.{needs}
 use Rattle.files.proofs.read_open.Statement.{statement}

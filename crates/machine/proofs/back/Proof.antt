@@ -1,6 +1,6 @@
 -- `machine::back` meets its contract: a run of one is a step. Assumes nothing.
 use borrow.Author.Needs.{needs}
-use Rattle.moves.specs.Step.{step, stepBack}
+use Rattle.moves.specs.Step.{stepBack}
 use Rattle.machine.proofs.Whole.{step-says}
 use Rattle.machine.proofs.back.Statement.{statement}
 use Rattle.machine.proofs.back.Tie as tie

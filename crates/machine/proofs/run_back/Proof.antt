@@ -1,6 +1,5 @@
 -- `machine::run_back` meets its contract: the run forward of the place turned round. Assumes nothing.
 use borrow.Author.Needs.{needs}
-use mathlib.Core.Path.{subst}
 use Rattle.machine.proofs.Whole.{back-says}
 use Rattle.machine.proofs.run_back.Statement.{statement}
 use Rattle.machine.proofs.run_back.Tie as tie

@@ -1,6 +1,6 @@
 -- `machine::step` meets its contract: a run of one is a step. Assumes nothing.
 use borrow.Author.Needs.{needs}
-use Rattle.moves.specs.Step.{step, stepBack}
+use Rattle.moves.specs.Step.{step}
 use Rattle.machine.proofs.Whole.{step-says}
 use Rattle.machine.proofs.step.Statement.{statement}
 use Rattle.machine.proofs.step.Tie as tie

@@ -1,12 +1,12 @@
 -- `run::ran` meets its contract: the store's first cells are zeros. Assumes nothing.
 use mathlib.Core.Path.{_≡_, sym, ap, _∙_}
-use Prim.Native.Nat.{ℕ, _≤_}
+use Prim.Native.Nat.{_≤_}
 use native.Mathlib.Omega.{arith}
 use lib.ListN.{length, take}
 use lib.Seq.{length-take-le}
 use denote.Ref.{now}
 use borrow.Author.Needs.{needs}
-use Rattle.run.specs.Report.{noughts, length-noughts}
+use Rattle.run.specs.Report.{length-noughts}
 use Rattle.run.proofs.Running.{few, zeros}
 use Rattle.run.proofs.ran.Statement.{statement}
 use Rattle.run.proofs.ran.Tie as tie

@@ -1,6 +1,4 @@
 -- `run::report` meets its contract. Assumes nothing.
-use mathlib.Core.Path.{sym, _∙_}
-use native.Mathlib.Omega.{arith}
 use denote.Ref.{now}
 use borrow.Author.Needs.{needs}
 use Rattle.program.proofs.Few.{accepted-counts}

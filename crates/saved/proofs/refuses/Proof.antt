@@ -3,7 +3,6 @@ use mathlib.Core.Path.{ap}
 use borrow.Author.Needs.{needs}
 use Rattle.place.specs.declared.Place.{Place as Held}
 use Rattle.machine.specs.declared.Told.the-variants.{Refused}
-use Rattle.saved.specs.declared.Found.{Found}
 use Rattle.saved.proofs.refuses.Statement.{statement}
 use Rattle.saved.proofs.refuses.Tie as tie
 

@@ -1,5 +1,5 @@
 -- `words::nearest` meets its contract: what is left after its tests is an i32. Assumes nothing.
-use mathlib.Core.Path.{_≡_, _∙_}
+use mathlib.Core.Path.{_∙_}
 use mir.Facts.{toZ-ofZ}
 use Rattle.words.proofs.Lines.{between, below, above, itself}
 use Rattle.words.proofs.nearest.Statement.{statement}

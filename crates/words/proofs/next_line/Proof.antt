@@ -4,7 +4,6 @@ use Prim.Native.Nat.{_-_}
 use native.Mathlib.Omega.{arith}
 use lib.ListN.{length}
 use denote.Ref.{now}
-use borrow.Author.Needs.{needs}
 use Rattle.words.specs.Words.{nextLine}
 use Rattle.words.proofs.Lines.{ends, goes-on, nothing}
 use Rattle.words.proofs.next_line.Statement.{statement}

@@ -1,5 +1,4 @@
 -- `decide::gates::gates` meets its contract. The loop's invariant: the array is that of the labels passed. Assumes nothing.
-use mathlib.Core.Path.{_≡_}
 use Prim.Native.Nat.{_-_, _≤_}
 use native.Mathlib.Omega.{arith}
 use borrow.Author.Needs.{needs}

@@ -1,6 +1,5 @@
 -- `lines::set::fill` is safe and ends. Assumes nothing.
 use Prim.Native.Nat.{_≤_}
-use native.Mathlib.Omega.{arith}
 use borrow.Author.Needs.{needs}
 use Rattle.lines.proofs.set.fill.Statement.{statement}
 use Rattle.lines.proofs.set.fill.Tie as tie

@@ -1,6 +1,5 @@
 -- `lines::tell::frames` is safe and ends. Assumes nothing.
 use Prim.Native.Nat.{_≤_}
-use native.Mathlib.Omega.{arith}
 use borrow.Author.Needs.{needs}
 use Rattle.lines.proofs.tell.frames.Statement.{statement}
 use Rattle.lines.proofs.tell.frames.Tie as tie

@@ -1,6 +1,5 @@
 -- `lines::tell::rest` is safe and ends. Assumes nothing.
 use Prim.Native.Nat.{_≤_, _-_}
-use native.Mathlib.Omega.{arith}
 use borrow.Author.Needs.{needs}
 use Rattle.lines.proofs.tell.rest.Statement.{statement}
 use Rattle.lines.proofs.tell.rest.Tie as tie
