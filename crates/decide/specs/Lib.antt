@@ -1,4 +1,5 @@
 -- The definitions of `decide`.
 pub mod Sets
 pub mod Decide
-pub mod Gates
+pub mod Ways
+pub mod Map

@@ -8,7 +8,7 @@ use lib.Dec.{ltb, eqb}
 use lib.IntN.{ℤ, pos, negsuc}
 use Rattle.expr.specs.Tree.{Arrays, Worth}
 use Rattle.expr.specs.Answers.{arraysOf, worthAt}
-use Rattle.expr.specs.Bytes.{parse}
+use Rattle.expr.specs.Bytes.{within}
 use Rattle.records.specs.Faults.{word}
 use Rattle.moves.specs.Stores.{Answer, ok, no, number, badIndex, bind, Store, answered, applied}
 
@@ -25,25 +25,10 @@ abbrev pub entryBy : Arrays → ℕ → ℤ → Answer ℕ
 entryBy A a (pos i) = cond (ltb i (getD (A .lengths) a 0)) (ok (getD (A .starts) a 0 + i)) (no badIndex)
 entryBy A a (negsuc i) = no badIndex
 
--- the number r of a cell; from 131072 on there is none, and r tells why
-abbrev pub missOf : ℕ → ℕ
-missOf r = cond (eqb r 131104) 32 33
-
+-- the number r of a cell; 131072 is none
 abbrev pub EntrySays : Answer ℕ → ℕ → Type 0
 EntrySays (ok c) r = (r ≡ c) × (c < 131072)
-EntrySays (no q) r = (missOf r ≡ number q) × (131072 ≤ r)
-
--- the cell of a scalar (form 0) of that number, or of the array at the index that stands at `at`; and where the index ends
-unfoldable pub targetOf : List ℕ → ℕ → ℕ → ℕ → List ℕ → Store → Answer ℕ
-targetOf f at form n arr σ = cond (eqb form 0) (ok n) (bind (answered (worthAt arr σ (parse 16 f at))) (λ v. entryBy (arraysOf arr) n v))
-
-unfoldable pub targetEnd : List ℕ → ℕ → ℕ → ℕ
-targetEnd f at form = cond (eqb form 0) at (parse 16 f at .next)
-
--- the same with the position afterwards
-abbrev pub TargetSays : Answer ℕ → ℕ → ℕ → ℕ → Type 0
-TargetSays (ok c) next r after = ((r ≡ c) × (c < 131072)) × (after ≡ next)
-TargetSays (no q) next r after = (missOf r ≡ number q) × (131072 ≤ r)
+EntrySays (no q) r = (r ≡ 131072) × (q ≡ badIndex)
 
 -- the number r answered, and the store left
 abbrev pub Leaves : Answer Store → Store → ℕ → Store → Type 0
@@ -55,11 +40,11 @@ setTo c o σ w = bind (answered w) (λ v. ok (worked σ c o v))
 
 unfoldable pub setEntry : List ℕ → ℕ → ℕ → ℕ → List ℕ → Store → Answer Store
 setEntry f at a o arr σ =
-    bind (bind (answered (worthAt arr σ (parse 16 f at))) (λ v. entryBy (arraysOf arr) a v))
-    (λ c. setTo c o σ (worthAt arr σ (parse 16 f (parse 16 f at .next))))
+    bind (bind (answered (worthAt arr σ (within 32768 f at))) (λ v. entryBy (arraysOf arr) a v))
+    (λ c. setTo c o σ (worthAt arr σ (within 32768 f (within 32768 f at .next))))
 
 unfoldable pub setAt : List ℕ → ℕ → ℕ → List ℕ → Store → Answer Store
 setAt f at d arr σ =
     cond (eqb (getD f (at + 5) 0) 0)
-    (setTo (word f (at + 6)) (operatorAt (getD f (at + 4) 0) d) σ (worthAt arr σ (parse 16 f (at + 8))))
+    (setTo (word f (at + 6)) (operatorAt (getD f (at + 4) 0) d) σ (worthAt arr σ (within 32768 f (at + 8))))
     (setEntry f (at + 8) (word f (at + 6)) (operatorAt (getD f (at + 4) 0) d) arr σ)

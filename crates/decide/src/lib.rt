@@ -1,32 +1,34 @@
 // What a step does, decided from the record, the innermost frame and the store; never from the whole place.
 // Every public function is total. File and store are arrays of fixed size: each is one pointer, and no length goes with it.
-use crate::set::assign;
+// A way is a label and a direction in one number: the label, and 1,024 more upwards. By it a run looks up all that it needs.
 use crate::set::fault;
+use crate::set::set_cell;
+use crate::set::set_entry;
 use place::top_of;
 ghost use mathlib.Core.Path.{_≡_};
-ghost use Prim.Native.Nat.{_+_, _<_};
+ghost use Prim.Native.Nat.{_+_, _<_, _≤_};
 ghost use lib.ListN.{getD};
 ghost use Rattle.expr.specs.Answers.{worthAt};
-ghost use Rattle.expr.specs.Bytes.{parse};
-ghost use Rattle.decide.specs.Decide.{seenBy, bare, byKind, byLabel, seen, lookIn, moreOf, fewerOf, alongOf, gateOf, againOf, otherOf, truthOf, refusedOf, keptOf, pushedOf, poppedOf, changedOf, chosenOf, closedOf, openedOf, repeatedOf, enteredTo, ledOf, backOf, returnedOf, testedOf, assignedOf, Rules, ruleOf};
+ghost use Rattle.expr.specs.Bytes.{within};
+ghost use Rattle.decide.specs.Decide.{lookIn, moreOf, fewerOf, otherOf, alongOf, gateOf, truthOf};
+ghost use Rattle.decide.specs.Ways.{wayTo, labelIn, sideIn, bare, byKind, byLabel, sight, yesIn, noIn, refusedIn, keptIn, pushedIn, poppedIn, changedIn, chosenIn, closedIn, againIn, openedIn, repeatedIn, enteredIn, backIn, returnedIn, testedIn, assignedIn, Rules, ruleIn};
 
-pub mod gates;
+pub mod map;
 mod set;
 
-// Where a step stands: the direction, the record met, how many frames are calls, how many there are.
+// Where a step stands: the way of the record met, how many frames are calls, how many there are.
 pub struct Spot {
-    pub direction: u8,
-    pub b: u16,
+    pub way: usize,
     pub calls: u16,
     pub count: usize,
 }
 
-// What it does: reason 0 and the next edge, or the reason; one slot is written, and so many frames are left.
+// What it does: reason 0, the next way and the label before it, or the reason; one slot is written (none: 1,104), and so many
+// frames are left.
 pub struct Move {
     pub reason: u8,
-    pub direction: u8,
+    pub way: usize,
     pub a: u16,
-    pub b: u16,
     pub calls: u16,
     pub count: usize,
     pub slot: usize,
@@ -105,12 +107,58 @@ pub fn gate(table: &[u16; 9344], q: usize, direction: u8) -> u16
     look(table, 9280 + q)
 }
 
-// What the expression of the record at `at` holds: 0 false, 1 true, else the document's number of what stops it.
-fn truth(bytes: &[u8; 32768], at: u16, arrays: &[u16; 32], cells: &[i32; 2048]) -> u8
-    ensures { λ r. ⌜ r ≡ truthOf (worthAt (now (arrays .entry)) (now (cells .entry)) (parse 16 (now (bytes .entry)) (at + 4))) ⌝ }
+// The way of a label in a direction.
+pub fn way_to(b: u16, direction: u8) -> u16
+    ensures { λ r. ⌜ r ≡ wayTo b direction ⌝ }
 {
-    let mut p = wide(at) + 4;
-    let w = expr::worth(bytes, &mut p, cells, arrays);
+    if direction == 0 {
+        return b;
+    }
+    // no label is above
+    if b < 1024 { b + 1024 } else { b }
+}
+
+// The label of a way, and its direction.
+pub fn label_of(way: usize) -> u16
+    ensures { λ r. ⌜ r ≡ labelIn way ⌝ }
+{
+    (way % 1024) as u16
+}
+
+pub fn side_of(way: usize) -> u8
+    ensures { λ r. ⌜ r ≡ sideIn way ⌝ }
+{
+    if way < 1024 { 0 } else { 1 }
+}
+
+// The entry of a way in a section of the map.
+fn entry(map: &[u16; 14336], section: usize, way: usize) -> u16
+    requires { ⌜ (section + 2048 ≤ 14336) × (way < 2048) ⌝ }
+    ensures { λ r. ⌜ r ≡ getD (now (map .entry)) (section + way) 0 ⌝ }
+{
+    map[section + way]
+}
+
+// Where one comes to where the test of the record holds or there is none, and where it does not hold.
+fn onward(map: &[u16; 14336], way: usize) -> usize
+    requires { ⌜ way < 2048 ⌝ }
+    ensures { λ r. ⌜ r ≡ yesIn (now (map .entry)) way ⌝ }
+{
+    wide(entry(map, 2048, way))
+}
+
+fn elsewhere(map: &[u16; 14336], way: usize) -> usize
+    requires { ⌜ way < 2048 ⌝ }
+    ensures { λ r. ⌜ r ≡ noIn (now (map .entry)) way ⌝ }
+{
+    wide(entry(map, 4096, way))
+}
+
+// What the expression at `at` holds: 0 false, 1 true, else the document's number of what stops it.
+fn truth(bytes: &[u8; 32784], at: usize, arrays: &[u16; 32], cells: &[i32; 2048]) -> u8
+    ensures { λ r. ⌜ r ≡ truthOf (worthAt (now (arrays .entry)) (now (cells .entry)) (within 32768 (now (bytes .entry)) at)) ⌝ }
+{
+    let w = expr::worth(bytes, at, cells, arrays);
     if w > 2147483647 {
         return fault(w);
     }
@@ -122,47 +170,46 @@ fn truth(bytes: &[u8; 32768], at: u16, arrays: &[u16; 32], cells: &[i32; 2048]) 
 
 impl Spot {
     fn refused(self, reason: u8) -> Move
-        ensures { λ r. ⌜ r ≡ refusedOf (seenBy self 9 0) reason ⌝ }
+        ensures { λ r. ⌜ r ≡ refusedIn (bare self) reason ⌝ }
     {
         Move {
             reason,
-            direction: self.direction,
+            way: self.way,
             a: 0,
-            b: self.b,
             calls: self.calls,
             count: self.count,
-            slot: self.count,
+            slot: 1104,
             kind: 0,
             label: 0,
         }
     }
 
-    // The same frames: the first unused slot is written again.
-    fn kept(self, next: u16) -> Move
-        ensures { λ r. ⌜ r ≡ keptOf (seenBy self 9 0) next ⌝ }
+    // The same frames: no slot is written.
+    fn kept(self, next: usize) -> Move
+        ensures { λ r. ⌜ r ≡ keptIn (bare self) next ⌝ }
     {
+        let a = label_of(self.way);
         Move {
             reason: 0,
-            direction: self.direction,
-            a: self.b,
-            b: next,
+            way: next,
+            a,
             calls: self.calls,
             count: self.count,
-            slot: self.count,
+            slot: 1104,
             kind: 0,
             label: 0,
         }
     }
 
-    fn pushed(self, next: u16, kind: u16, label: u16) -> Move
-        ensures { λ r. ⌜ r ≡ pushedOf (seenBy self 9 0) next kind label ⌝ }
+    fn pushed(self, next: usize, kind: u16, label: u16) -> Move
+        ensures { λ r. ⌜ r ≡ pushedIn (bare self) next kind label ⌝ }
     {
+        let a = label_of(self.way);
         let count = more(self.count);
         Move {
             reason: 0,
-            direction: self.direction,
-            a: self.b,
-            b: next,
+            way: next,
+            a,
             calls: self.calls,
             count,
             slot: self.count,
@@ -171,15 +218,15 @@ impl Spot {
         }
     }
 
-    fn popped(self, next: u16) -> Move
-        ensures { λ r. ⌜ r ≡ poppedOf (seenBy self 9 0) next ⌝ }
+    fn popped(self, next: usize) -> Move
+        ensures { λ r. ⌜ r ≡ poppedIn (bare self) next ⌝ }
     {
+        let a = label_of(self.way);
         let count = fewer(self.count);
         Move {
             reason: 0,
-            direction: self.direction,
-            a: self.b,
-            b: next,
+            way: next,
+            a,
             calls: self.calls,
             count,
             slot: count,
@@ -189,16 +236,16 @@ impl Spot {
     }
 
     // The innermost frame with another kind.
-    fn changed(self, next: u16, kind: u16, labels: &[u16; 1104]) -> Move
-        ensures { λ r. ⌜ r ≡ changedOf (byLabel self (now (labels .entry))) next kind ⌝ }
+    fn changed(self, next: usize, kind: u16, labels: &[u16; 1104]) -> Move
+        ensures { λ r. ⌜ r ≡ changedIn (byLabel self (now (labels .entry))) next kind ⌝ }
     {
+        let a = label_of(self.way);
         let slot = fewer(self.count);
         let label = top_of(labels, self.count, 0);
         Move {
             reason: 0,
-            direction: self.direction,
-            a: self.b,
-            b: next,
+            way: next,
+            a,
             calls: self.calls,
             count: self.count,
             slot,
@@ -208,44 +255,33 @@ impl Spot {
     }
 
     // IF down and FI up choose: true takes s1, false s2.
-    fn chosen(self, v: u8, table: &[u16; 9344]) -> Move
-        ensures { λ r. ⌜ r ≡ chosenOf (bare self) v (now (table .entry)) ⌝ }
+    fn chosen(self, v: u8, map: &[u16; 14336]) -> Move
+        requires { ⌜ self .way < 2048 ⌝ }
+        ensures { λ r. ⌜ r ≡ chosenIn (bare self) v (now (map .entry)) ⌝ }
     {
-        let d = self.direction;
-        let b = self.b;
-        let head = part(table, 2048, b);
+        let head = entry(map, 12288, self.way);
         if v == 0 {
-            if d == 0 {
-                return self.pushed(along(table, d, part(table, 3072, b)), 1, head);
-            }
-            return self.pushed(along(table, d, b), 1, head);
+            return self.pushed(elsewhere(map, self.way), 1, head);
         }
-        if d == 0 {
-            return self.pushed(along(table, d, b), 0, head);
-        }
-        self.pushed(along(table, d, part(table, 3072, b)), 0, head)
+        self.pushed(onward(map, self.way), 0, head)
     }
 
     // IF up and FI down close: value and frame must agree.
-    fn closed(self, v: u8, kinds: &[u16; 1104], table: &[u16; 9344]) -> Move
-        ensures { λ r. ⌜ r ≡ closedOf (byKind self (now (kinds .entry))) v (now (table .entry)) ⌝ }
+    fn closed(self, v: u8, kinds: &[u16; 1104], map: &[u16; 14336]) -> Move
+        requires { ⌜ self .way < 2048 ⌝ }
+        ensures { λ r. ⌜ r ≡ closedIn (byKind self (now (kinds .entry))) v (now (map .entry)) ⌝ }
     {
         let kind = top_of(kinds, self.count, 9);
-        if v == 0 {
-            if kind == 0 {
-                return self.refused(31);
-            }
-            return self.popped(along(table, self.direction, self.b));
+        // one test that nearly always holds, and none of the value by itself
+        if (v == 0) == (kind == 0) {
+            return self.refused(31);
         }
-        if kind == 0 {
-            return self.popped(along(table, self.direction, self.b));
-        }
-        self.refused(31)
+        self.popped(onward(map, self.way))
     }
 
     // Whether one comes to the loop from its s2.
     fn again(self, head: u16, kinds: &[u16; 1104], labels: &[u16; 1104]) -> bool
-        ensures { λ r. ⌜ r ≡ againOf (seen self (now (kinds .entry)) (now (labels .entry))) head ⌝ }
+        ensures { λ r. ⌜ r ≡ againIn (sight self (now (kinds .entry)) (now (labels .entry))) head ⌝ }
     {
         let kind = top_of(kinds, self.count, 9);
         if kind == 3 {
@@ -255,18 +291,12 @@ impl Spot {
     }
 
     // FROM down and UNTIL up open: true from outside, false from s2.
-    fn opened(
-        self,
-        v: u8,
-        y: u16,
-        kinds: &[u16; 1104],
-        labels: &[u16; 1104],
-        table: &[u16; 9344],
-    ) -> Move
-        ensures { λ r. ⌜ r ≡ openedOf (seen self (now (kinds .entry)) (now (labels .entry))) v y (now (table .entry)) ⌝ }
+    fn opened(self, v: u8, kinds: &[u16; 1104], labels: &[u16; 1104], map: &[u16; 14336]) -> Move
+        requires { ⌜ self .way < 2048 ⌝ }
+        ensures { λ r. ⌜ r ≡ openedIn (sight self (now (kinds .entry)) (now (labels .entry))) v (now (map .entry)) ⌝ }
     {
-        let head = part(table, 2048, self.b);
-        let next = along(table, self.direction, y);
+        let head = entry(map, 12288, self.way);
+        let next = onward(map, self.way);
         if self.again(head, kinds, labels) {
             if v == 0 {
                 return self.changed(next, 2, labels);
@@ -280,69 +310,52 @@ impl Spot {
     }
 
     // UNTIL down and FROM up test: true leaves the loop, false enters s2.
-    fn repeated(self, v: u8, y: u16, labels: &[u16; 1104], table: &[u16; 9344]) -> Move
-        ensures { λ r. ⌜ r ≡ repeatedOf (byLabel self (now (labels .entry))) v y (now (table .entry)) ⌝ }
+    fn repeated(self, v: u8, labels: &[u16; 1104], map: &[u16; 14336]) -> Move
+        requires { ⌜ self .way < 2048 ⌝ }
+        ensures { λ r. ⌜ r ≡ repeatedIn (byLabel self (now (labels .entry))) v (now (map .entry)) ⌝ }
     {
         if v == 0 {
-            return self.changed(along(table, self.direction, y), 3, labels);
+            return self.changed(elsewhere(map, self.way), 3, labels);
         }
-        self.popped(along(table, self.direction, self.b))
+        self.popped(onward(map, self.way))
     }
 
-    // A call enters a procedure at the edge (a, b) in a direction; a 65th is refused.
-    fn entered(self, a: u16, b: u16, direction: u8) -> Move
-        ensures { λ r. ⌜ r ≡ enteredTo (bare self) a b direction ⌝ }
+    // A call enters a procedure at the edge that the map has; a 65th is refused.
+    fn entered(self, map: &[u16; 14336]) -> Move
+        requires { ⌜ self .way < 2048 ⌝ }
+        ensures { λ r. ⌜ r ≡ enteredIn (bare self) (now (map .entry)) ⌝ }
     {
         let calls = self.calls;
         if 64 <= calls {
             return self.refused(34);
         }
+        let label = label_of(self.way);
+        let a = entry(map, 6144, self.way);
+        let way = wide(entry(map, 8192, self.way));
         let count = more(self.count);
         Move {
             reason: 0,
-            direction,
+            way,
             a,
-            b,
             calls: calls + 1,
             count,
             slot: self.count,
             kind: 4,
-            label: self.b,
+            label,
         }
     }
 
-    // The call that the record met is, by the gates of a direction.
-    fn called(self, direction: u8, gates: &[u16; 2048]) -> Move
-        requires { ⌜ self .b < 1024 ⌝ }
-        ensures { λ r. ⌜ r ≡ enteredTo (bare self) (getD (now (gates .entry)) (self .b) 0) (getD (now (gates .entry)) (self .b + 1024) 0) direction ⌝ }
+    // Back at the calling record of a label, and on from there.
+    fn back_to(self, label: u16, map: &[u16; 14336]) -> Move
+        requires { ⌜ (0 < self .calls) × ((label < 1024) × (self .way < 2048)) ⌝ }
+        ensures { λ r. ⌜ r ≡ backIn (bare self) label (now (map .entry)) ⌝ }
     {
-        let x = wide(self.b);
-        self.entered(gates[x], gates[x + 1024], direction)
-    }
-
-    // The same by the array for the direction.
-    fn led(self, direction: u8, downs: &[u16; 2048], ups: &[u16; 2048]) -> Move
-        requires { ⌜ self .b < 1024 ⌝ }
-        ensures { λ r. ⌜ r ≡ ledOf (bare self) direction (now (downs .entry)) (now (ups .entry)) ⌝ }
-    {
-        if direction == 0 {
-            return self.called(direction, downs);
-        }
-        self.called(direction, ups)
-    }
-
-    // Back at the calling record of a label, and on from there in a direction.
-    fn back_to(self, direction: u8, label: u16, table: &[u16; 9344]) -> Move
-        requires { ⌜ 0 < self .calls ⌝ }
-        ensures { λ r. ⌜ r ≡ backOf (seenBy self 9 0) direction label (now (table .entry)) ⌝ }
-    {
-        let b = along(table, direction, label);
+        let way = onward(map, wide(label) + self.way / 1024 * 1024);
         let count = fewer(self.count);
         Move {
             reason: 0,
-            direction,
+            way,
             a: label,
-            b,
             calls: self.calls - 1,
             count,
             slot: count,
@@ -351,75 +364,56 @@ impl Spot {
         }
     }
 
-    // END down and BEGIN up return to the calling record, and turn where that is an UNCALL; none is left at the end of main.
-    fn returned(self, labels: &[u16; 1104], table: &[u16; 9344]) -> Move
-        ensures { λ r. ⌜ r ≡ returnedOf (byLabel self (now (labels .entry))) (now (table .entry)) ⌝ }
+    // END down and BEGIN up return to the calling record; none is left at the end of main.
+    fn returned(self, labels: &[u16; 1104], map: &[u16; 14336]) -> Move
+        requires { ⌜ self .way < 2048 ⌝ }
+        ensures { λ r. ⌜ r ≡ returnedIn (byLabel self (now (labels .entry))) (now (map .entry)) ⌝ }
     {
-        let d = self.direction;
         let calls = self.calls;
         if calls == 0 {
             return self.refused(30);
         }
         let label = top_of(labels, self.count, 0);
-        // each way has a look-up of its own, so that none waits for the direction
-        if part(table, 1024, label) == 12 {
-            if d == 0 {
-                return self.back_to(1, label, table);
-            }
-            return self.back_to(0, label, table);
+        if 1024 <= label {
+            return self.refused(21);
         }
-        if d == 0 {
-            return self.back_to(0, label, table);
-        }
-        self.back_to(d, label, table)
+        self.back_to(label, map)
     }
 
-    // A record of kind k whose expression holds v, or is stopped.
+    // A record that does `act` and whose expression holds v, or is stopped.
     fn tested(
         self,
-        kind: u16,
+        act: u16,
         v: u8,
         kinds: &[u16; 1104],
         labels: &[u16; 1104],
-        table: &[u16; 9344],
+        map: &[u16; 14336],
     ) -> Move
-        ensures { λ r. ⌜ r ≡ testedOf (seen self (now (kinds .entry)) (now (labels .entry))) kind v (now (table .entry)) ⌝ }
+        requires { ⌜ self .way < 2048 ⌝ }
+        ensures { λ r. ⌜ r ≡ testedIn (sight self (now (kinds .entry)) (now (labels .entry))) act v (now (map .entry)) ⌝ }
     {
-        let d = self.direction;
-        let b = self.b;
         if 2 <= v {
             return self.refused(v);
         }
-        if kind == 5 {
-            if d == 0 {
-                return self.chosen(v, table);
-            }
-            return self.closed(v, kinds, table);
+        if act == 5 {
+            return self.chosen(v, map);
         }
-        if kind == 7 {
-            if d == 0 {
-                return self.closed(v, kinds, table);
-            }
-            return self.chosen(v, table);
+        if act == 7 {
+            return self.closed(v, kinds, map);
         }
-        if kind == 8 {
-            if d == 0 {
-                return self.opened(v, b, kinds, labels, table);
-            }
-            return self.repeated(v, part(table, 4096, b), labels, table);
+        if act == 8 {
+            return self.opened(v, kinds, labels, map);
         }
-        if d == 0 {
-            return self.repeated(v, part(table, 3072, b), labels, table);
-        }
-        self.opened(v, part(table, 3072, b), kinds, labels, table)
+        self.repeated(v, labels, map)
     }
 
     // A SET that answered a number.
-    fn assigned(self, reason: u8, table: &[u16; 9344]) -> Move
-        ensures { λ r. ⌜ r ≡ assignedOf (seenBy self 9 0) reason (now (table .entry)) ⌝ }
+    fn assigned(self, reason: u8, map: &[u16; 14336]) -> Move
+        requires { ⌜ self .way < 2048 ⌝ }
+        ensures { λ r. ⌜ r ≡ assignedIn (bare self) reason (now (map .entry)) ⌝ }
     {
         if reason == 0 {
-            return self.kept(along(table, self.direction, self.b));
+            return self.kept(onward(map, self.way));
         }
         self.refused(reason)
     }
@@ -430,37 +424,37 @@ pub fn decide(
     s: Spot,
     kinds: &[u16; 1104],
     labels: &[u16; 1104],
-    bytes: &[u8; 32768],
-    table: &[u16; 9344],
-    downs: &[u16; 2048],
-    ups: &[u16; 2048],
+    bytes: &[u8; 32784],
+    map: &[u16; 14336],
     arrays: &[u16; 32],
     cells: &mut [i32; 2048],
 ) -> Move
-    ensures { λ r. ⌜ Rules (ruleOf (now (bytes .entry)) (now (table .entry)) (now (downs .entry)) (now (ups .entry)) (now (arrays .entry)) (seen s (now (kinds .entry)) (now (labels .entry))) (now (cells .entry))) r (now (cells .exit)) ⌝ }
+    ensures { λ r. ⌜ Rules (ruleIn (now (bytes .entry)) (now (map .entry)) (now (arrays .entry)) (sight s (now (kinds .entry)) (now (labels .entry))) (now (cells .entry))) r (now (cells .exit)) ⌝ }
 {
-    let d = s.direction;
-    // no label is above, so that what follows asks the table without a test
-    if 1024 <= s.b {
+    // no way is above, so that what follows asks the map without a test
+    if 2048 <= s.way {
         return s.refused(21);
     }
-    let at = offset(table, s.b);
-    let kind = part(table, 1024, s.b);
-    if kind == 4 {
-        let reason = assign(bytes, at, d, arrays, cells);
-        return s.assigned(reason, table);
+    let act = entry(map, 0, s.way);
+    let at = wide(entry(map, 10240, s.way));
+    if act == 4 {
+        let o = wide(entry(map, 6144, s.way));
+        let reason = set_cell(bytes, at, o, wide(entry(map, 8192, s.way)), arrays, cells);
+        return s.assigned(reason, map);
     }
-    if kind == 13 {
-        return s.kept(along(table, d, s.b));
+    if act == 6 {
+        let o = wide(entry(map, 6144, s.way));
+        let reason = set_entry(bytes, at, o, wide(entry(map, 8192, s.way)), arrays, cells);
+        return s.assigned(reason, map);
     }
-    if kind == 11 {
-        return s.led(d, downs, ups);
+    if act == 13 {
+        return s.kept(onward(map, s.way));
     }
-    if kind == 12 {
-        return s.led(other(d), downs, ups);
+    if act == 11 {
+        return s.entered(map);
     }
-    if kind <= 3 {
-        return s.returned(labels, table);
+    if act == 3 {
+        return s.returned(labels, map);
     }
-    s.tested(kind, truth(bytes, at, arrays, cells), kinds, labels, table)
+    s.tested(act, truth(bytes, at, arrays, cells), kinds, labels, map)
 }

@@ -10,8 +10,8 @@ ghost use lib.ListN.{getD};
 ghost use Rattle.codes.specs.Codes.{word16};
 ghost use Rattle.expr.specs.Tree.{element};
 ghost use Rattle.expr.specs.Agreement.{isScalar, isArray};
-ghost use Rattle.expr.specs.Bytes.{parse, whole};
-ghost use Rattle.expr.specs.Answers.{endOf, Packs, arraysOf, worthAt, readAt, WorthSays, OnTheWay, nameOf, seenOf, knownOf};
+ghost use Rattle.expr.specs.Bytes.{parse, whole, within};
+ghost use Rattle.expr.specs.Answers.{endOf, Packs, arraysOf, worthAt, readAt, leafSize, leafIn, WorthSays, OnTheWay, nameOf, seenOf, knownOf};
 
 pub enum End {
     At(usize),
@@ -96,24 +96,17 @@ fn element_at(cells: &[i32; 2048], arrays: &[u16; 32], a: usize, index: i32) -> 
     BAD_INDEX
 }
 
-// What the expression at `*at`, at most `left` deep, is worth; where that is a value, `*at` is moved behind it.
-fn value_at(
-    bytes: &[u8; 32768],
-    at: &mut usize,
-    left: usize,
-    cells: &[i32; 2048],
-    arrays: &[u16; 32],
-) -> i64
-    ensures { λ r. ⌜ OnTheWay (worthAt (now (arrays .entry)) (now (cells .entry)) (parse left (now (bytes .entry)) (now (at .entry)))) (parse left (now (bytes .entry)) (now (at .entry)) .next) r (now (at .exit)) ⌝ }
+// What the expression at `*at` is worth; where that is a value, `*at` is moved behind it. From 32,768 on there is none: the
+// array is longer, so that what is read behind such a position is there without a test. A constant and a scalar, which nearly
+// every operand is, need no call.
+fn operand(bytes: &[u8; 32784], at: &mut usize, cells: &[i32; 2048], arrays: &[u16; 32]) -> i64
+    ensures { λ r. ⌜ OnTheWay (worthAt (now (arrays .entry)) (now (cells .entry)) (within 32768 (now (bytes .entry)) (now (at .entry)))) (within 32768 (now (bytes .entry)) (now (at .entry)) .next) r (now (at .exit)) ⌝ }
 {
     let p = *at;
-    if left == 0 {
-        return 0;
-    }
-    let tag = byte(bytes, p);
     if 32768 <= p {
         return 0;
     }
+    let tag = byte(bytes, p);
     if tag == 0 {
         *at = p + 5;
         return long(bytes, p + 1) as i64;
@@ -122,93 +115,121 @@ fn value_at(
         *at = p + 3;
         return cell(cells, short(bytes, p + 1)) as i64;
     }
-    if tag == 2 {
-        return read_at(bytes, at, left - 1, cells, arrays);
+    compound(bytes, at, cells, arrays)
+}
+
+// The same of an operator or an array read.
+fn compound(bytes: &[u8; 32784], at: &mut usize, cells: &[i32; 2048], arrays: &[u16; 32]) -> i64
+    requires { ⌜ (now at < 32768) × (1 < getD (now bytes) (now at) 0) ⌝ }
+    ensures { λ r. ⌜ OnTheWay (worthAt (now (arrays .entry)) (now (cells .entry)) (within 32768 (now (bytes .entry)) (now (at .entry)))) (within 32768 (now (bytes .entry)) (now (at .entry)) .next) r (now (at .exit)) ⌝ }
+{
+    let p = *at;
+    if byte(bytes, p) == 2 {
+        return read_at(bytes, at, cells, arrays);
     }
     let operator = byte(bytes, p + 1) as u8;
     *at = p + 2;
-    let l = operand(bytes, at, left - 1, cells, arrays);
+    let l = operand(bytes, at, cells, arrays);
     if l > MOST {
         return l;
     }
-    let r = operand(bytes, at, left - 1, cells, arrays);
+    let r = operand(bytes, at, cells, arrays);
     if r > MOST {
         return r;
     }
     values::apply(operator, l as i32, r as i32)
 }
 
-// The same. A constant and a scalar are read here, without a call: nearly every operand is one.
-fn operand(
-    bytes: &[u8; 32768],
-    at: &mut usize,
-    left: usize,
-    cells: &[i32; 2048],
-    arrays: &[u16; 32],
-) -> i64
-    ensures { λ r. ⌜ OnTheWay (worthAt (now (arrays .entry)) (now (cells .entry)) (parse left (now (bytes .entry)) (now (at .entry)))) (parse left (now (bytes .entry)) (now (at .entry)) .next) r (now (at .exit)) ⌝ }
-{
-    let p = *at;
-    if left == 0 {
-        return 0;
-    }
-    let tag = byte(bytes, p);
-    if 32768 <= p {
-        return 0;
-    }
-    if tag == 0 {
-        *at = p + 5;
-        return long(bytes, p + 1) as i64;
-    }
-    if tag == 1 {
-        *at = p + 3;
-        return cell(cells, short(bytes, p + 1)) as i64;
-    }
-    value_at(bytes, at, left, cells, arrays)
-}
-
-// What the array read at `*at` is worth: its number stands behind the first byte, then its index, at most `left` deep.
-// Evaluator and array read call each other. `value_at` lowers the depth left by 1, `operand` and `read_at` pass their own on:
-// what falls at every call is 3n for `value_at`, 3n + 1 for `operand` and 3n + 2 for `read_at`.
-fn read_at(
-    bytes: &[u8; 32768],
-    at: &mut usize,
-    left: usize,
-    cells: &[i32; 2048],
-    arrays: &[u16; 32],
-) -> i64
+// What the array read at `*at` is worth: its number stands behind the first byte, then its index.
+// The three call each other. Where n bytes are left before 32,768, what falls at every call is 3n + 1 for `operand`, 3n for
+// `compound` and 3n - 1 for `read_at`.
+fn read_at(bytes: &[u8; 32784], at: &mut usize, cells: &[i32; 2048], arrays: &[u16; 32]) -> i64
     requires { ⌜ now at < 32768 ⌝ }
-    ensures { λ r. ⌜ OnTheWay (readAt (now (arrays .entry)) (now (cells .entry)) (word16 (now (bytes .entry)) (now (at .entry) + 1)) (parse left (now (bytes .entry)) (now (at .entry) + 3))) (parse left (now (bytes .entry)) (now (at .entry) + 3) .next) r (now (at .exit)) ⌝ }
+    ensures { λ r. ⌜ OnTheWay (readAt (now (arrays .entry)) (now (cells .entry)) (word16 (now (bytes .entry)) (now (at .entry) + 1)) (within 32768 (now (bytes .entry)) (now (at .entry) + 3))) (within 32768 (now (bytes .entry)) (now (at .entry) + 3) .next) r (now (at .exit)) ⌝ }
 {
     let p = *at;
     let a = short(bytes, p + 1);
     *at = p + 3;
-    let i = operand(bytes, at, left, cells, arrays);
+    let i = operand(bytes, at, cells, arrays);
     if i > MOST {
         return i;
     }
     element_at(cells, arrays, a, i as i32)
 }
 
-// What the expression at `*at` is worth, read to the depth 16. `*at` is moved behind it, or stays where it is refused.
-// This way is for a condition, which is nearly always an operator.
-pub fn worth(bytes: &[u8; 32768], at: &mut usize, cells: &[i32; 2048], arrays: &[u16; 32]) -> i64
-    ensures { λ r. ⌜ WorthSays (now (arrays .entry)) (now (cells .entry)) (now (at .entry)) (parse 16 (now (bytes .entry)) (now (at .entry))) r (now (at .exit)) ⌝ }
+// What the expression at `at` is worth.
+fn worth_at(bytes: &[u8; 32784], at: usize, cells: &[i32; 2048], arrays: &[u16; 32]) -> i64
+    ensures { λ r. ⌜ Packs (worthAt (now (arrays .entry)) (now (cells .entry)) (within 32768 (now (bytes .entry)) at)) r ⌝ }
 {
-    let start = *at;
-    let r = value_at(bytes, at, 16, cells, arrays);
-    if r > MOST {
-        *at = start;
-    }
-    r
+    let mut p = at;
+    operand(bytes, &mut p, cells, arrays)
 }
 
-// The same. This way is for what a SET adds and for its index, nearly always a constant or a scalar.
-pub fn amount(bytes: &[u8; 32768], at: &mut usize, cells: &[i32; 2048], arrays: &[u16; 32]) -> i64
-    ensures { λ r. ⌜ WorthSays (now (arrays .entry)) (now (cells .entry)) (now (at .entry)) (parse 16 (now (bytes .entry)) (now (at .entry))) r (now (at .exit)) ⌝ }
+// The same of an operator or an array read.
+fn compound_at(bytes: &[u8; 32784], at: usize, cells: &[i32; 2048], arrays: &[u16; 32]) -> i64
+    requires { ⌜ (at < 32768) × (1 < getD (now bytes) at 0) ⌝ }
+    ensures { λ r. ⌜ Packs (worthAt (now (arrays .entry)) (now (cells .entry)) (within 32768 (now (bytes .entry)) at)) r ⌝ }
+{
+    let mut p = at;
+    compound(bytes, &mut p, cells, arrays)
+}
+
+// How long a constant or a scalar is.
+fn leaf_size(tag: usize) -> usize
+    ensures { λ r. ⌜ (r ≡ leafSize tag) × (r < 6) ⌝ }
+{
+    if tag == 0 { 5 } else { 3 }
+}
+
+// What the constant or scalar at `at` holds.
+fn leaf(bytes: &[u8; 32784], at: usize, tag: usize, cells: &[i32; 2048]) -> i32
+    requires { ⌜ at < 32768 ⌝ }
+    ensures { λ r. ⌜ r ≡ leafIn (now (bytes .entry)) (now (cells .entry)) tag at ⌝ }
+{
+    if tag == 0 {
+        return long(bytes, at + 1);
+    }
+    cell(cells, short(bytes, at + 1))
+}
+
+// The operator at `at`. One on two constants or scalars, the most common condition, needs no call of the evaluator.
+fn pair(bytes: &[u8; 32784], at: usize, cells: &[i32; 2048], arrays: &[u16; 32]) -> i64
+    requires { ⌜ (at < 32752) × (getD (now bytes) at 0 ≡ 3) ⌝ }
+    ensures { λ r. ⌜ Packs (worthAt (now (arrays .entry)) (now (cells .entry)) (within 32768 (now (bytes .entry)) at)) r ⌝ }
+{
+    let l = byte(bytes, at + 2);
+    if 2 <= l {
+        return compound_at(bytes, at, cells, arrays);
+    }
+    let mid = at + 2 + leaf_size(l);
+    let r = byte(bytes, mid);
+    if 2 <= r {
+        return compound_at(bytes, at, cells, arrays);
+    }
+    let operator = byte(bytes, at + 1) as u8;
+    let x = leaf(bytes, at + 2, l, cells);
+    values::apply(operator, x, leaf(bytes, mid, r, cells))
+}
+
+// What the expression at `at` is worth. This way is for a condition, which is nearly always an operator.
+pub fn worth(bytes: &[u8; 32784], at: usize, cells: &[i32; 2048], arrays: &[u16; 32]) -> i64
+    ensures { λ r. ⌜ Packs (worthAt (now (arrays .entry)) (now (cells .entry)) (within 32768 (now (bytes .entry)) at)) r ⌝ }
+{
+    if at < 32752 {
+        if byte(bytes, at) == 3 {
+            return pair(bytes, at, cells, arrays);
+        }
+    }
+    worth_at(bytes, at, cells, arrays)
+}
+
+// The same. This way is for what a SET adds and for its index, nearly always a constant or a scalar: `*at` is moved behind it,
+// or stays where it is refused.
+pub fn amount(bytes: &[u8; 32784], at: &mut usize, cells: &[i32; 2048], arrays: &[u16; 32]) -> i64
+    ensures { λ r. ⌜ WorthSays (now (arrays .entry)) (now (cells .entry)) (now (at .entry)) (within 32768 (now (bytes .entry)) (now (at .entry))) r (now (at .exit)) ⌝ }
 {
     let start = *at;
-    let r = operand(bytes, at, 16, cells, arrays);
+    let r = operand(bytes, at, cells, arrays);
     if r > MOST {
         *at = start;
     }

@@ -3,10 +3,10 @@ ghost use mathlib.Core.Path.{_≡_};
 ghost use Prim.Native.Nat.{min};
 ghost use Rattle.machine.specs.Copies.{noBytes, noCells, padTo, widenTo, backTo};
 
-fn no_bytes() -> [u8; 32768]
-    ensures { λ r. ⌜ r ≡ noBytes 32768 ⌝ }
+fn no_bytes() -> [u8; 32784]
+    ensures { λ r. ⌜ r ≡ noBytes 32784 ⌝ }
 {
-    [0; 32768]
+    [0; 32784]
 }
 
 fn no_cells() -> [i32; 2048]
@@ -21,12 +21,12 @@ fn least(a: usize, b: usize) -> usize
     if a < b { a } else { b }
 }
 
-// The first 32,768 bytes of a file, with zeros behind.
-pub fn padded(file: &[u8]) -> [u8; 32768]
-    ensures { λ r. ⌜ r ≡ padTo 32768 (now (file .entry)) ⌝ }
+// The first 32,784 bytes of a file, with zeros behind.
+pub fn padded(file: &[u8]) -> [u8; 32784]
+    ensures { λ r. ⌜ r ≡ padTo 32784 (now (file .entry)) ⌝ }
 {
     let mut copy = no_bytes();
-    let n = least(32768, file.len());
+    let n = least(32784, file.len());
     let mut i: usize = 0;
     while i < n {
         copy[i] = file[i];

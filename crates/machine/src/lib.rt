@@ -67,21 +67,10 @@ fn went(
 {
     let bytes = copies::padded(file);
     let arrays = program::arrays::arrays(file);
-    let downs = decide::gates::gates(&bytes, table, records, 0);
-    let ups = decide::gates::gates(&bytes, table, records, 1);
+    let map = decide::map::map(&bytes, table, records);
     let calls = walk::calls(&place.kinds, place.count);
     let mut cells = copies::widened(store);
-    let went = walk::go(
-        &bytes,
-        table,
-        &downs,
-        &ups,
-        &arrays,
-        &mut cells,
-        place,
-        calls,
-        n,
-    );
+    let went = walk::go(&bytes, &map, &arrays, &mut cells, place, calls, n);
     copies::restored(&cells, store);
     went
 }

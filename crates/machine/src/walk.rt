@@ -1,11 +1,14 @@
 // The loop of a run: one place, taken apart into locals, into which each step stores; no copy of it is made in a turn.
 use decide::Spot;
 use decide::decide;
+use decide::label_of;
+use decide::side_of;
+use decide::way_to;
 use place::Place;
 ghost use mathlib.Core.Path.{_≡_};
 ghost use Prim.Native.Nat.{_≤_};
-ghost use Rattle.decide.specs.Decide.{ruleOf};
-ghost use Rattle.machine.specs.Walk.{putIn, callsIn, callsOf, spotBy, endedIn, goOf, Goes};
+ghost use Rattle.decide.specs.Ways.{wayTo, ruleIn};
+ghost use Rattle.machine.specs.Walk.{putIn, callsIn, callsOf, spotBy, endedIn, standOf, goOf, Goes};
 
 // How far it went: why it stopped (0: all steps were made), how many were made, and where it is.
 pub struct Went {
@@ -17,19 +20,18 @@ pub struct Went {
 fn ended(
     reason: u8,
     steps: u32,
-    direction: u8,
+    way: usize,
     a: u16,
-    b: u16,
     count: usize,
     kinds: [u16; 1104],
     labels: [u16; 1104],
 ) -> Went
-    ensures { λ r. ⌜ r ≡ endedIn reason steps direction a b count kinds labels ⌝ }
+    ensures { λ r. ⌜ r ≡ endedIn reason steps way a count kinds labels ⌝ }
 {
     let place = Place {
-        direction,
+        direction: side_of(way),
         a,
-        b,
+        b: label_of(way),
         count,
         kinds,
         labels,
@@ -76,54 +78,52 @@ pub fn calls(kinds: &[u16; 1104], n: usize) -> u16
 }
 
 // Where a step stands.
-fn spot(direction: u8, b: u16, calls: u16, count: usize) -> Spot
-    ensures { λ r. ⌜ r ≡ spotBy direction b calls count ⌝ }
+fn spot(way: usize, calls: u16, count: usize) -> Spot
+    ensures { λ r. ⌜ r ≡ spotBy way calls count ⌝ }
 {
-    Spot {
-        direction,
-        b,
-        calls,
-        count,
-    }
+    Spot { way, calls, count }
+}
+
+// The way of the record that a place meets.
+fn way_of(b: u16, direction: u8) -> usize
+    ensures { λ r. ⌜ r ≡ wayTo b direction ⌝ }
+{
+    way_to(b, direction) as usize
 }
 
 // At most n steps from a place of which so many frames are calls. In the loop the place is taken apart, so that all but the
 // frames stays in registers.
 pub fn go(
-    bytes: &[u8; 32768],
-    table: &[u16; 9344],
-    downs: &[u16; 2048],
-    ups: &[u16; 2048],
+    bytes: &[u8; 32784],
+    map: &[u16; 14336],
     arrays: &[u16; 32],
     cells: &mut [i32; 2048],
     place: Place,
     calls: u16,
     n: u32,
 ) -> Went
-    ensures { λ r. ⌜ Goes (goOf (ruleOf (now (bytes .entry)) (now (table .entry)) (now (downs .entry)) (now (ups .entry)) (now (arrays .entry))) n place calls (now (cells .entry)) 0) r (now (cells .exit)) ⌝ }
+    ensures { λ r. ⌜ Goes (goOf (ruleIn (now (bytes .entry)) (now (map .entry)) (now (arrays .entry))) n (standOf place) calls (now (cells .entry)) 0) r (now (cells .exit)) ⌝ }
 {
     let mut kinds = place.kinds;
     let mut labels = place.labels;
-    let mut direction = place.direction;
+    let mut way = way_of(place.b, place.direction);
     let mut a = place.a;
-    let mut b = place.b;
     let mut count = place.count;
     let mut deep = calls;
     let mut made: u32 = 0;
     while made < n {
-        let s = spot(direction, b, deep, count);
-        let m = decide(s, &kinds, &labels, bytes, table, downs, ups, arrays, cells);
+        let s = spot(way, deep, count);
+        let m = decide(s, &kinds, &labels, bytes, map, arrays, cells);
         if m.reason != 0 {
-            return ended(m.reason, made, direction, a, b, count, kinds, labels);
+            return ended(m.reason, made, way, a, count, kinds, labels);
         }
         made += 1;
-        direction = m.direction;
+        way = m.way;
         a = m.a;
-        b = m.b;
         count = m.count;
         deep = m.calls;
         put(&mut kinds, m.slot, m.kind);
         put(&mut labels, m.slot, m.label);
     }
-    ended(0, made, direction, a, b, count, kinds, labels)
+    ended(0, made, way, a, count, kinds, labels)
 }

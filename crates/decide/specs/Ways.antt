@@ -1,0 +1,167 @@
+-- What a step decides by the map of a run, for any map, as the code does. Nothing here has to be believed: proofs/Mapped joins
+-- it to the decision by the table. A way is a label and a direction in one number: the label, and 1,024 more upwards.
+use Prim.Native.Nat.{ℕ, _+_, _-_, _*_, _/_, _%_}
+use mathlib.Core.List.{List}
+use mathlib.Core.Path.{_≡_}
+use mathlib.Core.Bool.{Bool, false, cond, Bool·beq as same}
+use lib.ListN.{getD}
+use lib.Dec.{ltb, leb, eqb}
+use Rattle.expr.specs.Answers.{worthAt}
+use Rattle.expr.specs.Bytes.{within}
+use Rattle.place.specs.Methods.{topAt}
+use Rattle.moves.specs.Stores.{Answer, ok, no, number, Store}
+use Rattle.decide.specs.Sets.{setTo, setEntry}
+use Rattle.decide.specs.Decide.{moreOf, fewerOf, truthOf}
+use Rattle.decide.specs.declared.Spot.{Spot}
+use Rattle.decide.specs.declared.Move.{Move}
+
+-- the way of a label in a direction
+unfoldable pub wayTo : ℕ → ℕ → ℕ
+wayTo b d = cond (eqb d 0) b (cond (ltb b 1024) (b + 1024) b)
+
+-- its label and direction
+abbrev pub labelIn : ℕ → ℕ
+labelIn w = w % 1024
+
+abbrev pub sideIn : ℕ → ℕ
+sideIn w = cond (ltb w 1024) 0 1
+
+-- what a step is decided from: where it stands, and the innermost frame (kind 9: none)
+pub record Sight : Type 0 where
+  pub way : ℕ
+  pub calls : ℕ
+  pub count : ℕ
+  pub kind : ℕ
+  pub label : ℕ
+
+abbrev pub sightBy : Spot → ℕ → ℕ → Sight
+sightBy s k l = record { way = s .way; calls = s .calls; count = s .count; kind = k; label = l }
+
+-- of the slots of the place; and where a function asks for the kind alone, the label alone, or neither
+unfoldable pub sight : Spot → List ℕ → List ℕ → Sight
+sight s ks ls = sightBy s (topAt ks (s .count) 9) (topAt ls (s .count) 0)
+
+unfoldable pub byKind : Spot → List ℕ → Sight
+byKind s ks = sightBy s (topAt ks (s .count) 9) 0
+
+unfoldable pub byLabel : Spot → List ℕ → Sight
+byLabel s ls = sightBy s 9 (topAt ls (s .count) 0)
+
+abbrev pub bare : Spot → Sight
+bare s = sightBy s 9 0
+
+-- ---- the entries of a way
+abbrev pub actIn : List ℕ → ℕ → ℕ
+actIn m w = getD m (0 + w) 0
+
+abbrev pub yesIn : List ℕ → ℕ → ℕ
+yesIn m w = getD m (2048 + w) 0
+
+abbrev pub noIn : List ℕ → ℕ → ℕ
+noIn m w = getD m (4096 + w) 0
+
+-- a call: the record by which the procedure is entered, and the way from there; a SET: its operator, and its cell or array
+abbrev pub firstIn : List ℕ → ℕ → ℕ
+firstIn m w = getD m (6144 + w) 0
+
+abbrev pub secondIn : List ℕ → ℕ → ℕ
+secondIn m w = getD m (8192 + w) 0
+
+-- where its expression stands
+abbrev pub exprIn : List ℕ → ℕ → ℕ
+exprIn m w = getD m (10240 + w) 0
+
+abbrev pub headIn : List ℕ → ℕ → ℕ
+headIn m w = getD m (12288 + w) 0
+
+-- ---- the frames
+abbrev pub moving : ℕ → ℕ → ℕ → ℕ → ℕ → ℕ → ℕ → ℕ → Move
+moving reason w a calls count slot kind label =
+    record { reason = reason; way = w; a = a; calls = calls; count = count; slot = slot; kind = kind; label = label }
+
+abbrev pub refusedIn : Sight → ℕ → Move
+refusedIn s n = moving n (s .way) 0 (s .calls) (s .count) 1104 0 0
+
+abbrev pub keptIn : Sight → ℕ → Move
+keptIn s y = moving 0 y (labelIn (s .way)) (s .calls) (s .count) 1104 0 0
+
+abbrev pub pushedIn : Sight → ℕ → ℕ → ℕ → Move
+pushedIn s y k l = moving 0 y (labelIn (s .way)) (s .calls) (moreOf (s .count)) (s .count) k l
+
+abbrev pub poppedIn : Sight → ℕ → Move
+poppedIn s y = moving 0 y (labelIn (s .way)) (s .calls) (fewerOf (s .count)) (fewerOf (s .count)) 0 0
+
+abbrev pub changedIn : Sight → ℕ → ℕ → Move
+changedIn s y k = moving 0 y (labelIn (s .way)) (s .calls) (s .count) (fewerOf (s .count)) k (s .label)
+
+-- ---- the acts
+unfoldable pub chosenIn : Sight → ℕ → List ℕ → Move
+chosenIn s v m = cond (eqb v 0) (pushedIn s (noIn m (s .way)) 1 (headIn m (s .way))) (pushedIn s (yesIn m (s .way)) 0 (headIn m (s .way)))
+
+unfoldable pub closedIn : Sight → ℕ → List ℕ → Move
+closedIn s v m = cond (same (eqb v 0) (eqb (s .kind) 0)) (refusedIn s 31) (poppedIn s (yesIn m (s .way)))
+
+-- the innermost frame is in s2 of the loop that is met
+abbrev pub againIn : Sight → ℕ → Bool
+againIn s h = cond (eqb (s .kind) 3) (eqb (s .label) h) false
+
+unfoldable pub openedIn : Sight → ℕ → List ℕ → Move
+openedIn s v m =
+    cond (againIn s (headIn m (s .way)))
+    (cond (eqb v 0) (changedIn s (yesIn m (s .way)) 2) (refusedIn s 31))
+    (cond (eqb v 0) (refusedIn s 31) (pushedIn s (yesIn m (s .way)) 2 (headIn m (s .way))))
+
+unfoldable pub repeatedIn : Sight → ℕ → List ℕ → Move
+repeatedIn s v m = cond (eqb v 0) (changedIn s (noIn m (s .way)) 3) (poppedIn s (yesIn m (s .way)))
+
+unfoldable pub enteredIn : Sight → List ℕ → Move
+enteredIn s m =
+    cond (leb 64 (s .calls)) (refusedIn s 34)
+    (moving 0 (secondIn m (s .way)) (firstIn m (s .way)) (s .calls + 1) (moreOf (s .count)) (s .count) 4 (labelIn (s .way)))
+
+abbrev pub backIn : Sight → ℕ → List ℕ → Move
+backIn s l m = moving 0 (yesIn m (l + s .way / 1024 * 1024)) l (s .calls - 1) (fewerOf (s .count)) (fewerOf (s .count)) 0 0
+
+unfoldable pub returnedIn : Sight → List ℕ → Move
+returnedIn s m = cond (eqb (s .calls) 0) (refusedIn s 30) (cond (ltb (s .label) 1024) (backIn s (s .label) m) (refusedIn s 21))
+
+-- the record met does a, and its expression holds v
+unfoldable pub testedIn : Sight → ℕ → ℕ → List ℕ → Move
+testedIn s a v m =
+    cond (leb 2 v) (refusedIn s v) (cond (eqb a 5) (chosenIn s v m) (cond (eqb a 7) (closedIn s v m) (cond (eqb a 8) (openedIn s v m) (repeatedIn s v m))))
+
+abbrev pub assignedIn : Sight → ℕ → List ℕ → Move
+assignedIn s n m = cond (eqb n 0) (keptIn s (yesIn m (s .way))) (refusedIn s n)
+
+-- ---- the move, and the store after it
+pub record Ruled : Type 0 where
+  pub move : Move
+  pub store : Store
+
+-- the move answered and the store left are these
+pub record Rules (x : Ruled) (m : Move) (σ : Store) : Type 0 where
+  pub made : m ≡ x .move
+  pub left : σ ≡ x .store
+
+abbrev pub ruled : Move → Store → Ruled
+ruled m σ = record { move = m; store = σ }
+
+abbrev pub afterSet : Sight → List ℕ → Store → Answer Store → Ruled
+afterSet s m σ (ok σ′) = ruled (assignedIn s 0 m) σ′
+afterSet s m σ (no q) = ruled (assignedIn s (number q) m) σ
+
+-- a SET of a cell
+unfoldable pub setCell : List ℕ → ℕ → ℕ → ℕ → List ℕ → Store → Answer Store
+setCell f at c o arr σ = setTo c o σ (worthAt arr σ (within 32768 f at))
+
+-- no way is 2,048 or above, and no fitting place comes to one
+unfoldable pub ruleIn : List ℕ → List ℕ → List ℕ → Sight → Store → Ruled
+ruleIn f m arr s σ =
+    cond (ltb (s .way) 2048)
+    (cond (eqb (actIn m (s .way)) 4) (afterSet s m σ (setCell f (exprIn m (s .way)) (secondIn m (s .way)) (firstIn m (s .way)) arr σ))
+    (cond (eqb (actIn m (s .way)) 6) (afterSet s m σ (setEntry f (exprIn m (s .way)) (secondIn m (s .way)) (firstIn m (s .way)) arr σ))
+    (cond (eqb (actIn m (s .way)) 13) (ruled (keptIn s (yesIn m (s .way))) σ)
+    (cond (eqb (actIn m (s .way)) 11) (ruled (enteredIn s m) σ)
+    (cond (eqb (actIn m (s .way)) 3) (ruled (returnedIn s m) σ)
+    (ruled (testedIn s (actIn m (s .way)) (truthOf (worthAt arr σ (within 32768 f (exprIn m (s .way))))) m) σ))))))
+    (ruled (refusedIn s 21) σ)
