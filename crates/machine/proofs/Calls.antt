@@ -23,8 +23,7 @@ use Rattle.moves.proofs.Links.{at-is}
 use Rattle.moves.proofs.View.{stack, side-call, side-uncall}
 use Rattle.moves.proofs.Follow.{and-true}
 use Rattle.table.proofs.Tabled.{Tabled}
-use Rattle.decide.specs.declared.Move.{Move}
-use Rattle.decide.specs.Decide.{Seen, lookIn, moreOf, otherOf, alongOf, gateOf, resumedOf, refusedOf, enteredTo, enteredOf, returnedOf, moving, ruled, ruleOf}
+use Rattle.decide.specs.Decide.{Seen, Moved, lookIn, moreOf, otherOf, alongOf, gateOf, resumedOf, refusedOf, enteredTo, enteredOf, returnedOf, moving, ruled, ruleOf}
 use Rattle.machine.proofs.Room.{encl-room, stack-room, room}
 use Rattle.machine.proofs.Labels.{getD-any, inside}
 use Rattle.machine.proofs.Landing.{topLabel, spotAt, Fate, Acts, lands, acts-push, acts-pop}
@@ -87,7 +86,7 @@ module _ {f : List ℕ} {t : Tree} (A : Accepts f t) {tab : List ℕ} (T : Table
   gate-encl q down k = k .en-first
   gate-encl q up k = k .en-last
 
-module _ {f : List ℕ} {t : Tree} (A : Accepts f t) {tab : List ℕ} (T : Tabled t f tab) {bytes downs ups arr : List ℕ} (G : Agrees t f bytes tab downs ups arr) where
+module _ {f : List ℕ} {t : Tree} (A : Accepts f t) {tab : List ℕ} (T : Tabled t f tab) {bytes arr : List ℕ} (G : Agrees t f bytes arr) where
   abbrev P : Prog
   P = prog t
 
@@ -95,7 +94,7 @@ module _ {f : List ℕ} {t : Tree} (A : Accepts f t) {tab : List ℕ} (T : Table
   frames g cs = P .encl g ++ stack P cs
 
   abbrev Does : (g : ℕ) (d : Dir) (cs : List ℕ) (b : ℕ) → Store → Answer (Cut × Store) → Type 0
-  Does g d cs b σ a = Fate P (frames g cs) σ (ruleOf bytes tab downs ups arr (spotAt (frames g cs) d cs b) σ) a
+  Does g d cs b σ a = Fate P (frames g cs) σ (ruleOf bytes tab arr (spotAt (frames g cs) d cs b) σ) a
 
   encl-met : (g : ℕ) (d : Dir) → SimpleOk P (met g d) → P .encl (met g d) ≡ P .encl g
   encl-met g down k = k .en
@@ -127,7 +126,7 @@ module _ {f : List ℕ} {t : Tree} (A : Accepts f t) {tab : List ℕ} (T : Table
     unfolding enteredOf enteredTo
     enter-fate = go (ltb (length cs) 64) refl
       where
-        deep : length cs < 64 → Move
+        deep : length cs < 64 → Moved
         deep h = moving 0 (dirNumber d′) (gateOf tab q (dirNumber d′)) (alongOf tab (dirNumber d′) (gateOf tab q (dirNumber d′))) (length cs + 1) (moreOf (length (frames g cs))) (length (frames g cs)) 4 (met g d)
 
         go : (x : Bool) → ltb (length cs) 64 ≡ x
@@ -174,7 +173,7 @@ module _ {f : List ℕ} {t : Tree} (A : Accepts f t) {tab : List ℕ} (T : Table
           F′,
         )
       where
-        m : Move
+        m : Moved
         m = moving 0 (dirNumber d′) c (alongOf tab (dirNumber d′) c) (suc (length cs) - 1) (length (frames g (c ∷ cs)) - 1) (length (frames g (c ∷ cs)) - 1) 0 0
 
         less : (n : ℕ) → suc n - 1 ≡ n

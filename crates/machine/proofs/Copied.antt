@@ -18,9 +18,9 @@ use Rattle.moves.specs.Runs.{Ran, stopNumber, run}
 use Rattle.moves.proofs.Behind.{Zeros, zeros-are, run-behind}
 use Rattle.table.specs.Table.{tableOf}
 use Rattle.table.proofs.Tabled.{tabled}
-use Rattle.decide.specs.Decide.{ruleOf}
-use Rattle.decide.specs.Gates.{Leads}
-use Rattle.machine.specs.Walk.{gone, goOf}
+use Rattle.decide.specs.Ways.{ruleIn}
+use Rattle.decide.specs.Map.{Maps}
+use Rattle.machine.specs.Walk.{standOf, gone, goOf}
 use Rattle.machine.specs.Copies.{noBytes, noCells, padTo, widenTo}
 use Rattle.machine.specs.Whole.{givenBack}
 use Rattle.machine.proofs.CopyCases.{pad-is, length-pad, widen-is, back-is}
@@ -43,18 +43,17 @@ zero-cells : (k : ℕ) → Zeros (noCells k)
 unfolding noCells
 zero-cells k = zeros-are k
 
-module _ {f : List ℕ} {t : Tree} (A : Accepts f t) {downs ups : List ℕ} (L : Leads (padTo 32768 f) (tableOf f) (length (recordsOf t)) downs ups) where
-  agrees : Agrees t f (padTo 32768 f) (tableOf f) downs ups (arraysAt f)
+module _ {f : List ℕ} {t : Tree} (A : Accepts f t) {m : List ℕ} (L : Maps (padTo 32784 f) (tableOf f) (length (recordsOf t)) m) where
+  agrees : Agrees t f (padTo 32784 f) (arraysAt f)
   agrees = record {
     starts = λ a. arrays-start f t A a ∙ ap (λ (l : List ℕ). getD l a 0) (starting-is (t .scalars) (t .lengths));
     lengths = λ a. ap (λ (l : List ℕ). getD l a 0) (take-all 16 (drop 16 (arraysAt f)) (omega (arith, length-drop 16 (arraysAt f), arrays-long f))) ∙ arrays-length f t A a;
-    reads = read-at A (noBytes (32768 - length f)) (padTo 32768 f) (pad-is 32768 f (A .rows .short)) (omega (arith, length-pad 32768 f));
-    leads = L;
+    reads = read-at A (noBytes (32784 - length f)) (padTo 32784 f) (pad-is 32784 f (omega (arith, A .rows .short))) (omega (arith, length-pad 32784 f));
   }
 
   -- the run on the copies, its cells given back, is the run
   pub walked-copied : (p : Place) → Fits t p → (σ : Store) → length σ ≡ cells t → (n : ℕ)
-      → givenBack σ (goOf (ruleOf (padTo 32768 f) (tableOf f) downs ups (arraysAt f)) n (held p) (calls (p .frames)) (widenTo 2048 σ) 0)
+      → givenBack σ (goOf (ruleIn (padTo 32784 f) m (arraysAt f)) n (standOf (held p)) (calls (p .frames)) (widenTo 2048 σ) 0)
       ≡ gone (stopNumber (run t n p σ .stop)) (run t n p σ .steps) (held (run t n p σ .place)) (run t n p σ .store)
   walked-copied p fit σ sized n =
       let zs = noCells (2048 - length σ) in
@@ -63,6 +62,6 @@ module _ {f : List ℕ} {t : Tree} (A : Accepts f t) {downs ups : List ℕ} (L :
       let b = run-behind t zs (zero-cells (2048 - length σ)) A n p σ sized in
       let z : 0 + r .steps ≡ r .steps = omega arith in
       ap (givenBack σ)
-      (ap (λ (τ : Store). goOf (ruleOf (padTo 32768 f) (tableOf f) downs ups (arraysAt f)) n (held p) (calls (p .frames)) τ 0) (widen-is 2048 σ h)
-      ∙ (walked A (tabled f t A) agrees n p fit (σ ++ zs) 0 ∙ ap (λ (x : Ran). gone (stopNumber (x .stop)) (0 + x .steps) (held (x .place)) (x .store)) (b .0)))
+      (ap (λ (τ : Store). goOf (ruleIn (padTo 32784 f) m (arraysAt f)) n (standOf (held p)) (calls (p .frames)) τ 0) (widen-is 2048 σ h)
+      ∙ (walked A (tabled f t A) agrees L n p fit (σ ++ zs) 0 ∙ ap (λ (x : Ran). gone (stopNumber (x .stop)) (0 + x .steps) (held (x .place)) (x .store)) (b .0)))
       ∙ (λ i. gone (stopNumber (r .stop)) (z i) (held (r .place)) (back-is 2048 (r .store) zs σ (b .1 ∙ sym sized) h i))

@@ -12,7 +12,6 @@ use Rattle.place.specs.Slots.{dirNumber}
 use Rattle.records.specs.Records.{Target, kind}
 use Rattle.order.specs.Trees.{Tree, recordsOf}
 use Rattle.program.specs.Says.{Accepts}
-use Rattle.records.specs.Reading.{recordAs}
 use Rattle.moves.specs.Stores.{Reason, atEnd, wrongValue, zeroDivisor, badIndex, tooDeep, number, Answer, ok, no, bind, Store, holds, assigned}
 use Rattle.moves.specs.Step.{again, must}
 use Rattle.moves.proofs.Linked.{Con, Rec, setL, skipL, ifL, fiL, fromL, untilL, Prog, forget, side}
@@ -23,13 +22,13 @@ use Rattle.moves.proofs.View.{stack, fresh-stack, encl-left}
 use Rattle.table.proofs.Tabled.{Tabled, is-if, is-fi, is-from, is-until}
 use Rattle.decide.specs.Decide.{Seen, lookIn, alongOf, keptOf, pushedOf, poppedOf, changedOf, chosenOf, closedOf, openedOf, repeatedOf, testedOf, assignedOf, ruled, Rules, ruleOf}
 use Rattle.decide.specs.Sets.{Leaves, setAt}
-use Rattle.decide.proofs.DecideCases.{rule-set, rule-skip}
+use Rattle.decide.proofs.Rules.{rule-set, rule-skip}
 use Rattle.machine.proofs.Labels.{small, inside}
 use Rattle.machine.proofs.Landing.{topKind, spotAt, again-is, Fate, keeps, pushes, pops, changes}
-use Rattle.machine.proofs.Sets.{Agrees, set-is}
+use Rattle.machine.proofs.Sets.{Stands, Agrees, set-is}
 use Rattle.machine.proofs.Decided.{w, fate-of, kind-at, head-at, record-is, middle-at, tail-at, test-fate, tree-if, tree-fi, tree-from, tree-until, close-then, close-else, open-out, open-in}
 
-module _ {f : List ℕ} {t : Tree} (A : Accepts f t) {tab : List ℕ} (T : Tabled t f tab) {bytes downs ups arr : List ℕ} (G : Agrees t f bytes tab downs ups arr) where
+module _ {f : List ℕ} {t : Tree} (A : Accepts f t) {tab : List ℕ} (T : Tabled t f tab) {bytes arr : List ℕ} (G : Agrees t f bytes arr) where
   abbrev P : Prog
   P = prog t
 
@@ -37,7 +36,7 @@ module _ {f : List ℕ} {t : Tree} (A : Accepts f t) {tab : List ℕ} (T : Table
   frames g cs = P .encl g ++ stack P cs
 
   abbrev Does : (g : ℕ) (d : Dir) (cs : List ℕ) (b : ℕ) → Store → Answer (Cut × Store) → Type 0
-  Does g d cs b σ a = Fate P (frames g cs) σ (ruleOf bytes tab downs ups arr (spotAt (frames g cs) d cs b) σ) a
+  Does g d cs b σ a = Fate P (frames g cs) σ (ruleOf bytes tab arr (spotAt (frames g cs) d cs b) σ) a
 
   -- a label of a construct that a record met is a part of is a record's
   within : (g : ℕ) (d : Dir) (cs : List ℕ) → Sits P (record { g = g; d = d; cs = cs }) → (c : Con) → Span P c → c .l ≤ met g d → met g d ≤ c .r
@@ -78,8 +77,8 @@ module _ {f : List ℕ} {t : Tree} (A : Accepts f t) {tab : List ℕ} (T : Table
       pub skip-fate : P .at (met g d) ≡ skipL → side (P .at (met g d)) (met g d) (opp d) ≡ met g d → Does g d cs (met g d) σ (ok (leave (met g d) d cs, σ))
       unfolding kind
       skip-fate e s =
-          fate-of P (frames g cs) σ (ruleOf bytes tab downs ups arr (spotAt (frames g cs) d cs (met g d)) σ) (keptOf (spotAt (frames g cs) d cs (met g d)) (alongOf tab (dirNumber d) (met g d))) σ (ok (leave (met g d) d cs, σ))
-          (rule-skip bytes tab downs ups arr (spotAt (frames g cs) d cs (met g d)) σ 13 (lookIn tab (met g d)) (sym (kind-at A T G (met g d) simple skipL e)) refl (keptOf (spotAt (frames g cs) d cs (met g d)) (alongOf tab (dirNumber d) (met g d))) low (λ z. omega arith) (alongOf tab (dirNumber d) (met g d)) refl refl refl)
+          fate-of P (frames g cs) σ (ruleOf bytes tab arr (spotAt (frames g cs) d cs (met g d)) σ) (keptOf (spotAt (frames g cs) d cs (met g d)) (alongOf tab (dirNumber d) (met g d))) σ (ok (leave (met g d) d cs, σ))
+          (rule-skip bytes tab arr (spotAt (frames g cs) d cs (met g d)) σ 13 (lookIn tab (met g d)) (sym (kind-at A T G (met g d) simple skipL e)) refl (keptOf (spotAt (frames g cs) d cs (met g d)) (alongOf tab (dirNumber d) (met g d))) low (λ z. omega arith) (alongOf tab (dirNumber d) (met g d)) refl refl refl)
           (keeps A T g d cs F (met g d) (met g d) (met g d) (fit1 t P g d cs F k) (pos1 t P g d cs F k) s refl σ (encl-left t (w A T G) g d k))
 
       pub set-fate : (o : ℕ) (x : Target) (e : Expr) → P .at (met g d) ≡ setL o x e → side (P .at (met g d)) (met g d) (opp d) ≡ met g d
@@ -87,17 +86,17 @@ module _ {f : List ℕ} {t : Tree} (A : Accepts f t) {tab : List ℕ} (T : Table
       unfolding kind bind
       set-fate o x e q s = go (assigned t o x e d σ) (set-is t arr G σ (lookIn tab (met g d)) d o x e (record-is A T G (met g d) simple (setL o x e) q))
         where
-          rules : (n : ℕ) (τ : Store) → Leaves (setAt bytes (lookIn tab (met g d)) (dirNumber d) arr σ) σ n τ → Rules (ruleOf bytes tab downs ups arr (spotAt (frames g cs) d cs (met g d)) σ) (assignedOf (spotAt (frames g cs) d cs (met g d)) n tab) τ
-          rules n τ l = rule-set bytes tab downs ups arr (spotAt (frames g cs) d cs (met g d)) σ 4 (lookIn tab (met g d)) (sym (kind-at A T G (met g d) simple (setL o x e) q)) refl (assignedOf (spotAt (frames g cs) d cs (met g d)) n tab) low n τ refl refl l
+          rules : (n : ℕ) (τ : Store) → Leaves (setAt bytes (lookIn tab (met g d)) (dirNumber d) arr σ) σ n τ → Rules (ruleOf bytes tab arr (spotAt (frames g cs) d cs (met g d)) σ) (assignedOf (spotAt (frames g cs) d cs (met g d)) n tab) τ
+          rules n τ l = rule-set bytes tab arr (spotAt (frames g cs) d cs (met g d)) σ 4 (lookIn tab (met g d)) (sym (kind-at A T G (met g d) simple (setL o x e) q)) refl (assignedOf (spotAt (frames g cs) d cs (met g d)) n tab) low n τ refl refl l
 
           go : (a : Answer Store) → setAt bytes (lookIn tab (met g d)) (dirNumber d) arr σ ≡ a → Does g d cs (met g d) σ (bind a (λ σ′. ok (leave (met g d) d cs, σ′)))
           go (ok τ) h =
               let l : Leaves (setAt bytes (lookIn tab (met g d)) (dirNumber d) arr σ) σ 0 τ = rw h (refl, refl) in
               let r = rules 0 τ l in
               let z = keeps A T g d cs F (met g d) (met g d) (met g d) (fit1 t P g d cs F k) (pos1 t P g d cs F k) s refl σ (encl-left t (w A T G) g d k) in
-              fate-of P (frames g cs) σ (ruleOf bytes tab downs ups arr (spotAt (frames g cs) d cs (met g d)) σ) (assignedOf (spotAt (frames g cs) d cs (met g d)) 0 tab) τ (ok (leave (met g d) d cs, τ)) r (refl, z .1, refl, refl, z .4)
+              fate-of P (frames g cs) σ (ruleOf bytes tab arr (spotAt (frames g cs) d cs (met g d)) σ) (assignedOf (spotAt (frames g cs) d cs (met g d)) 0 tab) τ (ok (leave (met g d) d cs, τ)) r (refl, z .1, refl, refl, z .4)
           go (no r) h =
-              fate-of P (frames g cs) σ (ruleOf bytes tab downs ups arr (spotAt (frames g cs) d cs (met g d)) σ) (assignedOf (spotAt (frames g cs) d cs (met g d)) (number r) tab) σ (no r) (rules (number r) σ (let l : Leaves (setAt bytes (lookIn tab (met g d)) (dirNumber d) arr σ) σ (number r) σ = rw h (refl, refl) in l))
+              fate-of P (frames g cs) σ (ruleOf bytes tab arr (spotAt (frames g cs) d cs (met g d)) σ) (assignedOf (spotAt (frames g cs) d cs (met g d)) (number r) tab) σ (no r) (rules (number r) σ (let l : Leaves (setAt bytes (lookIn tab (met g d)) (dirNumber d) arr σ) σ (number r) σ = rw h (refl, refl) in l))
               (refused-number (spotAt (frames g cs) d cs (met g d)) r, refl)
 
     -- ---- the records of constructs; b is the label that is shown, c the construct that the record met is a part of
@@ -108,7 +107,7 @@ module _ {f : List ℕ} {t : Tree} (A : Accepts f t) {tab : List ℕ} (T : Table
       kinds : (ρ : Rec) → P .at b ≡ ρ → (b < 1024) × (lookIn tab (1024 + b) ≡ kind (forget ρ))
       kinds ρ e = let h = there c k lo hi b lb br in let s = small A in (omega arith, kind-at A T G b h ρ e)
 
-      reads : (ρ : Rec) → P .at b ≡ ρ → recordAs (kind (forget ρ)) bytes (lookIn tab b) ≡ forget ρ
+      reads : (ρ : Rec) → P .at b ≡ ρ → Stands (kind (forget ρ)) bytes (lookIn tab b) (forget ρ)
       reads ρ e = record-is A T G b (there c k lo hi b lb br) ρ e
 
       -- a frame is pushed

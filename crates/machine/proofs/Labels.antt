@@ -12,7 +12,8 @@ use Rattle.place.specs.Slots.{dirNumber}
 use Rattle.records.specs.Records.{Record, names, skip, kind, body, encodeRecord, bytesOf, Formed, FineFrom}
 use Rattle.order.specs.Trees.{Tree, recordsOf}
 use Rattle.program.specs.Says.{Accepts}
-use Rattle.records.specs.Reading.{recordAs}
+use Rattle.records.specs.Faults.{word}
+use Rattle.records.specs.Reading.{stop}
 use Rattle.records.specs.Walk.{offsets}
 use Rattle.records.proofs.Offsets.{record-at, word-is, short-is, size-of}
 use Rattle.records.proofs.Bytes.{front-rest}
@@ -27,6 +28,7 @@ use Rattle.moves.proofs.Gaps.{tip}
 use Rattle.moves.proofs.Accepted.{accepted-wf}
 use Rattle.table.proofs.Tabled.{Tabled}
 use Rattle.decide.specs.Decide.{lookIn, alongOf}
+use Rattle.machine.proofs.Sets.{Stands}
 
 -- ---- a record of an accepted file
 pub getD-any : (rs : List Record) (x : ℕ) (a b : Record) → x < length rs → getD rs x a ≡ getD rs x b
@@ -85,18 +87,21 @@ module _ {f : List ℕ} {t : Tree} (A : Accepts f t) where
         let h : o ≤ length f = omega (arith, length-drop o f, length-append x y, ap length D) in
         ap (drop o) begun ∙ (drop-append-le o f zs h ∙ (ap (λ (l : List ℕ). l ++ zs) D ∙ append-assoc x y zs))
 
-    pub read-at : (x : ℕ) → x < count → recordAs (kind (at t x)) bytes (getD (offsets f) x 0) ≡ at t x
+    pub read-at : (x : ℕ) → x < count → Stands (kind (at t x)) bytes (getD (offsets f) x 0) (at t x)
     unfolding encodeRecord
     read-at x h =
         let s : length f < 2 ^ 16 = omega (arith, A .rows .short) in
         let r = getD (recordsOf t) x skip in
         let o = getD (offsets f) x 0 in
         let y = bytesOf (drop (suc x) (recordsOf t)) in
-        let D = behind o (encodeRecord r) y (omega arith) (record-at f (recordsOf t) s (A .rows .bytes) x h) in
+        let R = record-at f (recordsOf t) s (A .rows .bytes) x h in
+        let D = behind o (encodeRecord r) y (omega arith) R in
         let e : r ≡ at t x = getD-any (recordsOf t) x skip (names 0 []) h in
-        subst (λ r. recordAs (kind r) bytes o ≡ r) e
-        (complete-body bytes o _ r (formed-at 0 0 (recordsOf t) (A .rows .fine) x h) (body-at o r _ D)
-        (word-is bytes o r _ (short-is bytes short o r _ D) D ∙ size-of r) .1)
+        let W = word-is bytes o r _ (short-is bytes short o r _ D) D ∙ size-of r in
+        let c = complete-body bytes o _ r (formed-at 0 0 (recordsOf t) (A .rows .fine) x h) (body-at o r _ D) W in
+        let n : o + length (encodeRecord r) ≤ length f = omega (arith, length-drop o f, length-append (encodeRecord r) y, ap length R) in
+        subst (λ r. Stands (kind r) bytes o r) e
+        (record { is = c .1; formed = c .0; low = omega (arith, A .rows .short); before = omega (arith, A .rows .short, size-of r) })
       where
         body-at : (o : ℕ) (r : Record) (y : List ℕ) → drop o bytes ≡ encodeRecord r ++ y → drop (o + 4) bytes ≡ body r ++ y
         body-at o r y D = front-rest bytes o 4 _ D

@@ -24,29 +24,15 @@ use Rattle.moves.proofs.Rows.{prog}
 use Rattle.moves.proofs.Gaps.{tip}
 use Rattle.moves.proofs.View.{stack, view}
 use Rattle.table.proofs.Tabled.{Tabled}
-use Rattle.decide.specs.declared.Move.{Move}
-use Rattle.decide.specs.Decide.{Seen, alongOf, moreOf, keptOf, pushedOf, poppedOf, changedOf, againOf, Ruled, ruled}
+use Rattle.decide.specs.Decide.{Seen, Moved, alongOf, moreOf, keptOf, pushedOf, poppedOf, changedOf, againOf, Ruled, ruled}
 use Rattle.machine.specs.Walk.{putIn}
 use Rattle.machine.proofs.Labels.{along-is}
 use Rattle.machine.proofs.Room.{room}
 
 -- ---- one list of slots
-zero-there : (k : ℕ) → getD {A = ℕ} (replicate k 0) 0 0 ≡ 0
-zero-there zero = refl
-zero-there (suc k) = refl
-
-put-keep : (xs : List ℕ) (n : ℕ) → length xs ≡ n → putIn (slots xs) n 0 ≡ slots xs
+put-none : (s : List ℕ) (v : ℕ) → putIn s 1104 v ≡ s
 unfolding putIn
-put-keep xs n e = go (ltb n 1104)
-  where
-    unused : getD (slots xs) n 0 ≡ 0
-    unused =
-        ap (λ (i : ℕ). getD (slots xs) i 0) (let z : n ≡ length (reverse xs) + 0 = omega (arith, length-reverse xs) in z)
-        ∙ getD-append-add (reverse xs) _ 0 0 ∙ zero-there (1104 - length xs)
-
-    go : (b : Bool) → cond b (set (slots xs) n 0) (slots xs) ≡ slots xs
-    go true = ap (set (slots xs) n) (sym unused) ∙ set-getD (slots xs) n 0
-    go false = refl
+put-none s v = refl
 
 module _ (x : ℕ) (xs : List ℕ) (n : ℕ) (e : length xs ≡ n) (h : n < 1104) where
   put-push : putIn (slots xs) n x ≡ slots (x ∷ xs)
@@ -62,7 +48,7 @@ module _ (x : ℕ) (xs : List ℕ) (n : ℕ) (e : length xs ≡ n) (h : n < 1104
   put-change y = rw (lt-ltb n 1104 h) (change-slots x xs n e y)
 
 -- ---- the struct after a move, of the frames before it
-abbrev pub placed : List Frame → Move → Held
+abbrev pub placed : List Frame → Moved → Held
 placed fs m = record {
   direction = m .direction;
   a = m .a;
@@ -102,12 +88,12 @@ module _ {f : List ℕ} {t : Tree} (A : Accepts f t) {tab : List ℕ} (T : Table
   P = prog t
 
   -- the slots of fs after the move are those of fs′
-  abbrev pub Acts : List Frame → Move → List Frame → Type 0
+  abbrev pub Acts : List Frame → Moved → List Frame → Type 0
   Acts fs m fs′ =
       (m .count ≡ length fs′) × (putIn (slots (map frameKind fs)) (m .slot) (m .kind) ≡ slots (map frameKind fs′))
       × (putIn (slots (map frameLabel fs)) (m .slot) (m .label) ≡ slots (map frameLabel fs′))
 
-  pub lands : (fs : List Frame) (m : Move) (y : ℕ) (d : Dir) (cs : List ℕ) → Sits P (leave y d cs) → 0 < y → m .direction ≡ dirNumber d
+  pub lands : (fs : List Frame) (m : Moved) (y : ℕ) (d : Dir) (cs : List ℕ) → Sits P (leave y d cs) → 0 < y → m .direction ≡ dirNumber d
       → m .a ≡ side (P .at y) y (opp d) → m .b ≡ alongOf tab (dirNumber d) y → Acts fs m (P .encl (gap y d) ++ stack P cs)
       → placed fs m ≡ held (view P (leave y d cs))
   lands fs m y d cs F h ed ea eb s =
@@ -116,10 +102,10 @@ module _ {f : List ℕ} {t : Tree} (A : Accepts f t) {tab : List ℕ} (T : Table
       λ i. record { direction = ed i; a = a i; b = b i; count = s .0 i; kinds = s .1 i; labels = s .2 i }
 
   module _ (fs : List Frame) where
-    acts-keep : (m : Move) → m .count ≡ length fs → m .slot ≡ length fs → m .kind ≡ 0 → m .label ≡ 0 → Acts fs m fs
-    acts-keep m c s k l = (c, rw (s, k) (put-keep (map frameKind fs) (length fs) (length-map fs frameKind)), rw (s, l) (put-keep (map frameLabel fs) (length fs) (length-map fs frameLabel)))
+    acts-keep : (m : Moved) → m .count ≡ length fs → m .slot ≡ 1104 → Acts fs m fs
+    acts-keep m c s = (c, rw s (put-none (slots (map frameKind fs)) (m .kind)), rw s (put-none (slots (map frameLabel fs)) (m .label)))
 
-    module _ (h : length fs < 1104) (g : Frame) (m : Move) where
+    module _ (h : length fs < 1104) (g : Frame) (m : Moved) where
       pub acts-push : m .count ≡ moreOf (length fs) → m .slot ≡ length fs → m .kind ≡ frameKind g → m .label ≡ frameLabel g → Acts fs m (g ∷ fs)
       acts-push c s k l = (
         c ∙ rw (lt-ltb (length fs) 1104 h) (add-one (length fs)),
@@ -153,7 +139,7 @@ module _ {f : List ℕ} {t : Tree} (A : Accepts f t) {tab : List ℕ} (T : Table
     abbrev S : Seen
     S = spotAt (P .encl g ++ stack P cs) d cs b
 
-    abbrev To : Move → Type 0
+    abbrev To : Moved → Type 0
     To m = Fate P (P .encl g ++ stack P cs) σ (ruled m σ) (ok (leave y d cs, σ))
 
     before : length (P .encl g ++ stack P cs) ≤ 1104
@@ -162,12 +148,12 @@ module _ {f : List ℕ} {t : Tree} (A : Accepts f t) {tab : List ℕ} (T : Table
     behind : length (P .encl (gap y d) ++ stack P cs) ≤ 1104
     behind = room A (leave y d cs) F
 
-    to : (m : Move) → m .reason ≡ 0 → m .calls ≡ length cs → m .direction ≡ dirNumber d → m .a ≡ b → m .b ≡ alongOf tab (dirNumber d) y′
+    to : (m : Moved) → m .reason ≡ 0 → m .calls ≡ length cs → m .direction ≡ dirNumber d → m .a ≡ b → m .b ≡ alongOf tab (dirNumber d) y′
         → Acts (P .encl g ++ stack P cs) m (P .encl (gap y d) ++ stack P cs) → To m
     to m r c ed ea eb s = (r, lands (P .encl g ++ stack P cs) m y d cs F h ed (ea ∙ sym e) (eb ∙ ap (alongOf tab (dirNumber d)) yy) s, c, refl, F)
 
     pub keeps : P .encl g ≡ P .encl (gap y d) → To (keptOf S (alongOf tab (dirNumber d) y′))
-    keeps k = to _ refl refl refl refl refl (subst (λ G. Acts (P .encl g ++ stack P cs) (keptOf S (alongOf tab (dirNumber d) y′)) (G ++ stack P cs)) k (acts-keep (P .encl g ++ stack P cs) (keptOf S (alongOf tab (dirNumber d) y′)) refl refl refl refl))
+    keeps k = to _ refl refl refl refl refl (subst (λ G. Acts (P .encl g ++ stack P cs) (keptOf S (alongOf tab (dirNumber d) y′)) (G ++ stack P cs)) k (acts-keep (P .encl g ++ stack P cs) (keptOf S (alongOf tab (dirNumber d) y′)) refl refl))
 
     pub pushes : (f : Frame) (k l : ℕ) → k ≡ frameKind f → l ≡ frameLabel f → f ∷ P .encl g ≡ P .encl (gap y d) → To (pushedOf S (alongOf tab (dirNumber d) y′) k l)
     pushes f k l ek el q =

@@ -2,9 +2,10 @@
 pub mod WalkCases
 pub mod CopyCases
 pub mod Room
+pub mod Sets
 pub mod Labels
 pub mod Landing
-pub mod Sets
+pub mod There
 pub mod Decided
 pub mod Fates
 pub mod Calls

@@ -6,13 +6,12 @@ use native.Mathlib.Numerals.{add-one}
 use native.Mathlib.Omega.{arith}
 use borrow.Author.Tests.{eq-eqb, ne-eqb, lt-ltb, le-ltb, le-leb, lt-leb}
 use lib.ListN.{getD, set}
-use Rattle.place.specs.declared.Place.{Place as Held}
 use Rattle.moves.specs.Stores.{Store}
 use Rattle.decide.specs.declared.Spot.{Spot}
 use Rattle.decide.specs.declared.Move.{Move}
-use Rattle.decide.specs.Decide.{Seen, seen, Ruled, Rules}
+use Rattle.decide.specs.Ways.{Sight, sight, Ruled, Rules}
 use Rattle.machine.specs.declared.walk.Went.{Went}
-use Rattle.machine.specs.Walk.{putIn, callsIn, callsOf, spotBy, spotOf, Gone, goOf, Goes}
+use Rattle.machine.specs.Walk.{putIn, callsIn, callsOf, Stand, heldBy, spotBy, sightIn, Gone, goOf, Goes}
 
 pub put-near : (s : List ℕ) (i v : ℕ) → i < 1104 → set s i v ≡ putIn s i v
 unfolding putIn
@@ -47,42 +46,43 @@ calls-far s n h = rw (lt-leb n 1104 h)
 pub ruleset counts = (calls-near, calls-far)
 
 -- ---- where a step stands
-abbrev pub standing : Held → ℕ → Spot
-standing h c = spotBy (h .direction) (h .b) c (h .count)
+abbrev pub standing : Stand → ℕ → Spot
+standing h c = spotBy (h .way) c (h .count)
 
-stands : (h : Held) (c : ℕ) (s : Spot) → s ≡ standing h c → seen s (h .kinds) (h .labels) ≡ spotOf h c
-unfolding seen
-stands h c s e = ap (λ (s : Spot). seen s (h .kinds) (h .labels)) e
+stands : (h : Stand) (c : ℕ) (s : Spot) → s ≡ standing h c → sight s (h .kinds) (h .labels) ≡ sightIn h c
+unfolding sight
+stands h c s e = ap (λ (s : Spot). sight s (h .kinds) (h .labels)) e
 
 -- ---- a turn, by any rule
-module _ (R : Seen → Store → Ruled) (n : ℕ) (q₀ : Held) (c₀ : ℕ) (σ₀ : Store) (made : ℕ) (h : Held) (c : ℕ) (σ : Store)
+module _ (R : Sight → Store → Ruled) (n : ℕ) (q₀ : Stand) (c₀ : ℕ) (σ₀ : Store) (made : ℕ) (h : Stand) (c : ℕ) (σ : Store)
     (inv : goOf R n q₀ c₀ σ₀ 0 ≡ goOf R (n - made) h c σ made) where
   goes : (r : Went) (τ : Store) → goOf R n q₀ c₀ σ₀ 0 ≡ record { went = r; store = τ } → Goes (goOf R n q₀ c₀ σ₀ 0) r τ
   goes r τ e = record { went = sym (ap (λ (g : Gone). g .went) e); left = sym (ap (λ (g : Gone). g .store) e) }
 
-  pub goes-done : (r : Went) → n ≤ made → r ≡ record { reason = 0; steps = made; place = h } → Goes (goOf R n q₀ c₀ σ₀ 0) r σ
+  pub goes-done : (r : Went) → n ≤ made → r ≡ record { reason = 0; steps = made; place = heldBy h } → Goes (goOf R n q₀ c₀ σ₀ 0) r σ
   unfolding goOf
   goes-done r k e = let z : n - made ≡ 0 = omega arith in goes r σ (inv ∙ rw (z, e))
 
-  module _ (s : Spot) (ss : s ≡ standing h c) (m : Move) (τ : Store) (rules : Rules (R (seen s (h .kinds) (h .labels)) σ) m τ) (more : made < n) where
+  module _ (s : Spot) (ss : s ≡ standing h c) (m : Move) (τ : Store) (rules : Rules (R (sight s (h .kinds) (h .labels)) σ) m τ) (more : made < n) where
     left : n - made ≡ suc (n - (made + 1))
     left = omega arith
 
-    move-is : R (spotOf h c) σ .move ≡ m
-    move-is = sym (rules .made ∙ ap (λ (x : Seen). R x σ .move) (stands h c s ss))
+    move-is : R (sightIn h c) σ .move ≡ m
+    move-is = sym (rules .made ∙ ap (λ (x : Sight). R x σ .move) (stands h c s ss))
 
-    store-is : R (spotOf h c) σ .store ≡ τ
-    store-is = sym (rules .left ∙ ap (λ (x : Seen). R x σ .store) (stands h c s ss))
+    store-is : R (sightIn h c) σ .store ≡ τ
+    store-is = sym (rules .left ∙ ap (λ (x : Sight). R x σ .store) (stands h c s ss))
 
-    pub goes-refused : (r : Went) → (m .reason ≡ 0 → ⊥) → r ≡ record { reason = m .reason; steps = made; place = h } → Goes (goOf R n q₀ c₀ σ₀ 0) r τ
+    pub goes-refused : (r : Went) → (m .reason ≡ 0 → ⊥) → r ≡ record { reason = m .reason; steps = made; place = heldBy h } → Goes (goOf R n q₀ c₀ σ₀ 0) r τ
     unfolding goOf
     goes-refused r e w = goes r τ (inv ∙ rw (left, move-is, store-is, ne-eqb (m .reason) 0 e, w))
 
     pub goes-on : m .reason ≡ 0 → (ks ls : List ℕ) → ks ≡ putIn (h .kinds) (m .slot) (m .kind) → ls ≡ putIn (h .labels) (m .slot) (m .label)
         → goOf R n q₀ c₀ σ₀ 0
-        ≡ goOf R (n - (made + 1)) (record { direction = m .direction; a = m .a; b = m .b; count = m .count; kinds = ks; labels = ls }) (m .calls) τ (made + 1)
+        ≡ goOf R (n - (made + 1)) (record { way = m .way; a = m .a; count = m .count; kinds = ks; labels = ls }) (m .calls) τ (made + 1)
     unfolding goOf
     goes-on e ks ls ek el = inv ∙ rw (left, move-is, store-is, eq-eqb (m .reason) 0 e, ek, el)
 
-pub go-start : (R : Seen → Store → Ruled) (n : ℕ) (q : Held) (c : ℕ) (σ : Store) → goOf R n q c σ 0 ≡ goOf R (n - 0) q c σ 0
-go-start R n q c σ = let z : n - 0 ≡ n = omega arith in rw z
+pub go-start : (R : Sight → Store → Ruled) (n : ℕ) (q : Stand) (c : ℕ) (σ : Store) (w : ℕ) → w ≡ q .way
+    → goOf R n q c σ 0 ≡ goOf R (n - 0) (record { way = w; a = q .a; count = q .count; kinds = q .kinds; labels = q .labels }) c σ 0
+go-start R n q c σ w e = let z : n - 0 ≡ n = omega arith in rw (z, e)

@@ -31,8 +31,8 @@ use Rattle.table.proofs.Tabled.{tabled}
 use Rattle.fits.proofs.FitsLaw.{fits-law}
 use Rattle.machine.specs.declared.Told.{Told}
 use Rattle.machine.specs.declared.Ran.{Ran}
-use Rattle.decide.specs.Decide.{ruleOf}
-use Rattle.machine.specs.Walk.{callsIn, callsOf, Gone, gone, goOf}
+use Rattle.decide.specs.Ways.{ruleIn}
+use Rattle.machine.specs.Walk.{callsIn, callsOf, standOf, Gone, gone, goOf}
 use Rattle.machine.specs.Copies.{padTo, widenTo}
 use Rattle.machine.specs.declared.walk.Went.{Went}
 use Rattle.machine.specs.Whole.{toldBy, staying, givenBack, Copied, CheckedRun}
@@ -74,8 +74,8 @@ module _ (f : List ℕ) (q : Held) (σ : Store) (n : ℕ) where
     fitting : length σ ≡ cells t → (p : Place) → q ≡ held p → Fits t p → (w : Went) (τ : Store) → Copied f (tableOf f) (length (recordsOf t)) q σ n w τ
         → RunSays run f q σ n (toldBy (w .reason)) (w .steps) (w .place) τ
     fitting e p h fit w τ c =
-        let bytes = padTo 32768 f in
-        let g = (λ i. givenBack σ (goOf (ruleOf bytes (tableOf f) (c .downs) (c .ups) (arraysAt f)) n (h i) (calls-of p h fit i) (widenTo 2048 σ) 0)) ∙ walked-copied A (c .leads) p fit σ e n in
+        let bytes = padTo 32784 f in
+        let g = (λ i. givenBack σ (goOf (ruleIn bytes (c .map) (arraysAt f)) n (standOf (h i)) (calls-of p h fit i) (widenTo 2048 σ) 0)) ∙ walked-copied A (c .maps) p fit σ e n in
         let k : w ≡ gone (stopNumber (run t n p σ .stop)) (run t n p σ .steps) (held (run t n p σ .place)) (run t n p σ .store) .went = c .goes .went ∙ ap (λ (x : Gone). x .went) g in
         ran (record { accepts = A; sized = e; holds = h; fits = fit })
         (by-gives (ap (λ (x : Went). x .reason) k))

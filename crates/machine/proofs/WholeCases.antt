@@ -16,9 +16,10 @@ use Rattle.machine.specs.declared.Told.{Told}
 use Rattle.machine.specs.declared.Told.the-variants.{Done, Refused}
 use Rattle.machine.specs.declared.Ran.{Ran}
 use Rattle.machine.specs.declared.walk.Went.{Went}
-use Rattle.decide.specs.Decide.{gateOf, alongOf, ruleOf}
-use Rattle.decide.specs.Gates.{Gated}
-use Rattle.machine.specs.Walk.{callsOf, Gone, goOf, Goes}
+use Rattle.decide.specs.Decide.{gateOf, alongOf}
+use Rattle.decide.specs.Ways.{ruleIn}
+use Rattle.decide.specs.Map.{Maps}
+use Rattle.machine.specs.Walk.{callsOf, standOf, Gone, goOf, Goes}
 use Rattle.machine.specs.Copies.{padTo, widenTo, backTo}
 use Rattle.machine.specs.declared.Started.{Started}
 use Rattle.machine.specs.Whole.{toldBy, staying, Copied, CheckedRun, size, place, went, numberOf, startOf}
@@ -37,15 +38,14 @@ not-false : (b : Bool) → not b ≡ false → b ≡ true
 not-false true e = refl
 not-false false e = absurd (let z : _≡_ {A = ℕ} 0 1 = cc in let y : ⊥ = omega arith in y)
 
--- ---- `went`: the copies, the gates and the loop
-pub copied-goes : (f tab : List ℕ) (records : ℕ) (q : Held) (σ : Store) (n : ℕ) (bytes arr downs ups : List ℕ) (k : ℕ) (cells left : Store) (w : Went) (τ : Store)
-    → bytes ≡ padTo 32768 f → arr ≡ arraysAt f → Gated bytes tab records 0 downs → Gated bytes tab records 1 ups → k ≡ callsOf (q .kinds) (q .count) → cells ≡ widenTo 2048 σ
-    → Goes (goOf (ruleOf bytes tab downs ups arr) n q k cells 0) w left → τ ≡ backTo 2048 left σ → Copied f tab records q σ n w τ
-copied-goes f tab records q σ n bytes arr downs ups k cells left w τ eb ea gd gu ek ec g et = record {
-  downs = downs;
-  ups = ups;
-  leads = record { down = subst (λ (l : List ℕ). Gated l tab records 0 downs) eb gd; up = subst (λ (l : List ℕ). Gated l tab records 1 ups) eb gu };
-  goes = let h = subst (λ (x : Gone). Goes x w left) (λ i. goOf (ruleOf (eb i) tab downs ups (ea i)) n q (ek i) (ec i) 0) g in record { went = h .went; left = et ∙ ap (λ (l : Store). backTo 2048 l σ) (h .left) };
+-- ---- `went`: the copies, the map and the loop
+pub copied-goes : (f tab : List ℕ) (records : ℕ) (q : Held) (σ : Store) (n : ℕ) (bytes arr map : List ℕ) (k : ℕ) (cells left : Store) (w : Went) (τ : Store)
+    → bytes ≡ padTo 32784 f → arr ≡ arraysAt f → Maps bytes tab records map → k ≡ callsOf (q .kinds) (q .count) → cells ≡ widenTo 2048 σ
+    → Goes (goOf (ruleIn bytes map arr) n (standOf q) k cells 0) w left → τ ≡ backTo 2048 left σ → Copied f tab records q σ n w τ
+copied-goes f tab records q σ n bytes arr map k cells left w τ eb ea m ek ec g et = record {
+  map = map;
+  maps = subst (λ (l : List ℕ). Maps l tab records map) eb m;
+  goes = let h = subst (λ (x : Gone). Goes x w left) (λ i. goOf (ruleIn (eb i) map (ea i)) n (standOf q) (ek i) (ec i) 0) g in record { went = h .went; left = et ∙ ap (λ (l : Store). backTo 2048 l σ) (h .left) };
 }
 
 -- ---- `checked`

@@ -15,10 +15,11 @@ use Rattle.machine.specs.declared.Told.{Told}
 use Rattle.machine.specs.declared.Told.the-variants.{Done, Refused}
 use Rattle.machine.specs.declared.Ran.{Ran}
 use Rattle.machine.specs.declared.Started.{Started}
-use Rattle.decide.specs.Decide.{gateOf, alongOf, ruleOf}
-use Rattle.decide.specs.Gates.{Leads}
+use Rattle.decide.specs.Decide.{gateOf, alongOf}
+use Rattle.decide.specs.Ways.{ruleIn}
+use Rattle.decide.specs.Map.{Maps}
 use Rattle.machine.specs.declared.walk.Went.{Went}
-use Rattle.machine.specs.Walk.{callsOf, Gone, goOf, Goes}
+use Rattle.machine.specs.Walk.{callsOf, standOf, Gone, goOf, Goes}
 use Rattle.machine.specs.Copies.{padTo, widenTo, backTo}
 
 abbrev pub toldBy : ℕ → Told
@@ -31,12 +32,11 @@ staying n k q = record { told = Refused n k; steps = 0; place = q }
 abbrev pub givenBack : Store → Gone → Gone
 givenBack σ g = record { went = g .went; store = backTo 2048 (g .store) σ }
 
--- a run on the copies, by gates that are those of the file and the table
+-- a run on the copies, by a map that is the file's and the table's
 pub record Copied (f tab : List ℕ) (records : ℕ) (q : Held) (σ : Store) (n : ℕ) (w : Went) (σ′ : Store) : Type 0 where
-  pub downs : List ℕ
-  pub ups : List ℕ
-  pub leads : Leads (padTo 32768 f) tab records downs ups
-  pub goes : Goes (givenBack σ (goOf (ruleOf (padTo 32768 f) tab downs ups (arraysAt f)) n q (callsOf (q .kinds) (q .count)) (widenTo 2048 σ) 0)) w σ′
+  pub map : List ℕ
+  pub maps : Maps (padTo 32784 f) tab records map
+  pub goes : Goes (givenBack σ (goOf (ruleIn (padTo 32784 f) map (arraysAt f)) n (standOf q) (callsOf (q .kinds) (q .count)) (widenTo 2048 σ) 0)) w σ′
 
 -- a run of a program that is accepted: 20, 21, then the steps
 pub data CheckedRun (f : List ℕ) (records cells : ℕ) (q : Held) (σ : Store) (n : ℕ) (r : Ran) (σ′ : Store) : Type 0 where

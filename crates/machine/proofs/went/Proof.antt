@@ -1,4 +1,4 @@
--- `machine::went` meets its contract: `WholeCases` joins the copies, the gates and the loop. Assumes nothing.
+-- `machine::went` meets its contract: `WholeCases` joins the copies, the map and the loop. Assumes nothing.
 use borrow.Author.Needs.{needs}
 use Rattle.machine.proofs.WholeCases.{copied-goes}
 use Rattle.machine.proofs.went.Statement.{statement}

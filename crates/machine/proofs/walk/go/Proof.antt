@@ -3,11 +3,10 @@ use mathlib.Core.Path.{_≡_}
 use Prim.Native.Nat.{_-_, _≤_}
 use native.Mathlib.Omega.{arith}
 use borrow.Author.Needs.{needs}
-use Rattle.place.specs.declared.Place.{Place as Held}
 use Rattle.moves.specs.Stores.{Store}
-use Rattle.decide.specs.Decide.{Seen, Ruled, ruleOf}
+use Rattle.decide.specs.Ways.{Sight, Ruled, ruleIn}
 use Rattle.decide.proofs.decide.Reads as decide-reads
-use Rattle.machine.specs.Walk.{goOf}
+use Rattle.machine.specs.Walk.{Stand, standOf, goOf}
 use Rattle.machine.proofs.WalkCases.{go-start, goes-refused, goes-on, goes-done}
 use Rattle.machine.proofs.walk.go.Statement.{statement}
 use Rattle.machine.proofs.walk.go.Tie as tie
@@ -18,13 +17,13 @@ use Rattle.machine.proofs.walk.put.Reads as put-reads
 use Rattle.machine.proofs.walk.spot.Reads as spot-reads
 
 abbrev Inv-loop : tie.InvT-loop
-Inv-loop bytes table downs ups arrays cells₀ calls n kinds₀ labels₀ direction₀ a₀ b₀ count₀ deep₀ made₀ cells kinds labels direction a b count deep made =
+Inv-loop bytes map arrays cells₀ calls n kinds₀ labels₀ way₀ a₀ count₀ deep₀ made₀ cells kinds labels way a count deep made =
     (made ≤ n)
-    × (goOf (ruleOf bytes table downs ups arrays) n (record { direction = direction₀; a = a₀; b = b₀; count = count₀; kinds = kinds₀; labels = labels₀ }) calls cells₀ 0
-    ≡ goOf (ruleOf bytes table downs ups arrays) (n - made) (record { direction = direction; a = a; b = b; count = count; kinds = kinds; labels = labels }) deep cells made)
+    × (goOf (ruleIn bytes map arrays) n (record { way = way₀; a = a₀; count = count₀; kinds = kinds₀; labels = labels₀ }) calls cells₀ 0
+    ≡ goOf (ruleIn bytes map arrays) (n - made) (record { way = way; a = a; count = count; kinds = kinds; labels = labels }) deep cells made)
 
 abbrev μ-loop : tie.MeasureT-loop
-μ-loop bytes table downs ups arrays cells₀ calls n kinds₀ labels₀ direction₀ a₀ b₀ count₀ deep₀ made₀ cells kinds labels direction a b count deep made =
+μ-loop bytes map arrays cells₀ calls n kinds₀ labels₀ way₀ a₀ count₀ deep₀ made₀ cells kinds labels way a count deep made =
     n - made
 
 abbrev Known : Type 0
@@ -50,12 +49,12 @@ abbrev started : Known → Started
 started k = looped k .before .before .before
 
 -- the rule by the arrays that were lent
-abbrev rule : Started → Seen → Store → Ruled
-rule s = ruleOf (s .args .bytes .now) (s .args .table .now) (s .args .downs .now) (s .args .ups .now) (s .args .arrays .now)
+abbrev rule : Started → Sight → Store → Ruled
+rule s = ruleIn (s .args .bytes .now) (s .args .map .now) (s .args .arrays .now)
 
 -- the place that the locals are
-abbrev held : Looped → Held
-held l = record { direction = l .loop .direction; a = l .loop .a; b = l .loop .b; count = l .loop .count; kinds = l .loop .kinds; labels = l .loop .labels }
+abbrev held : Looped → Stand
+held l = record { way = l .loop .way; a = l .loop .a; count = l .loop .count; kinds = l .loop .kinds; labels = l .loop .labels }
 
 -- the store that the decision left
 abbrev stored : Known → Store
