@@ -45,21 +45,6 @@ forget (untilL c) = until (c .e₂)
 forget (callL q) = call q
 forget (uncallL q) = uncall q
 
-abbrev pub headOf : Rec → ℕ
-headOf (nameL v ls) = 0
-headOf (beginL q) = 0
-headOf (endL q) = 0
-headOf (setL o x e) = 0
-headOf skipL = 0
-headOf (ifL c) = c .l
-headOf (elseL c) = c .l
-headOf (fiL c) = c .l
-headOf (fromL c) = c .l
-headOf (loopL c) = c .l
-headOf (untilL c) = c .l
-headOf (callL q) = 0
-headOf (uncallL q) = 0
-
 -- Two neighbours x and x + 1 are the ends of one edge; where one of them is ELSE, LOOP or UNTIL, the edge belongs to a partner.
 -- onto: the label that an edge coming down to record x ends at. off: the label that an edge going down from record x starts at.
 abbrev pub onto : Rec → ℕ → ℕ

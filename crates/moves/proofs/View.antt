@@ -11,11 +11,11 @@ use Rattle.records.specs.Records.{kind}
 use Rattle.order.specs.Trees.{Tree}
 use Rattle.moves.specs.Labels.{at}
 use Rattle.moves.specs.Edges.{Frame, inThen, inElse, inDo, inLoop, called, frameKind}
-use Rattle.moves.specs.Places.{Dir, down, up, opp, Place, head, calls, gate}
+use Rattle.moves.specs.Places.{Dir, down, up, opp, Place, calls, gate}
 use Rattle.moves.specs.Stores.{Answer, ok, no, bind, Store, tooDeep}
 use Rattle.moves.specs.Step.{after, again, inside, must, step}
 use Rattle.moves.specs.Step as does
-use Rattle.moves.proofs.Linked.{Con, Rec, callL, uncallL, Prog, forget, headOf, side, gateL}
+use Rattle.moves.proofs.Linked.{Con, Rec, callL, uncallL, Prog, forget, side, gateL}
 use Rattle.moves.proofs.Cuts.{Cut, met, gap, leave, enter′, return′, port, through, cstep, Span, SimpleOk, ProcOk, Wf, Good, in-main, by-call, by-uncall, Sits}
 use Rattle.moves.proofs.Loop.{met-gap, pos1, gate-pos, fit, fit1, fit3}
 use Rattle.moves.proofs.Rows.{prog}
@@ -150,21 +150,20 @@ module _ (τ : Tree) (w : Wf τ (prog τ)) where
   spot g d cs b = record { a = tip P g (opp d); b = b; d = d; frames = P .encl g ++ stack P cs }
 
   pub sim-with : (g : ℕ) (d : Dir) (cs : List ℕ) (σ : Store) (b : ℕ) {ρ ρb : Rec} → P .at (met g d) ≡ ρ → side ρ (met g d) d ≡ b → P .at b ≡ ρb
-      → act (forget ρb) (head τ b d) d ≡ act (forget ρb) (headOf ρb) d
-      → perform τ (act (forget ρb) (headOf ρb) d) (spot g d cs b) σ ≡ seen P (through τ P (port ρ (met g d) d) (met g d) d cs σ)
+      → perform τ (act (forget ρb) d) (spot g d cs b) σ ≡ seen P (through τ P (port ρ (met g d) d) (met g d) d cs σ)
       → step τ (view P (record { g = g; d = d; cs = cs })) σ ≡ seen P (cstep τ P (record { g = g; d = d; cs = cs }) σ)
   unfolding cstep
-  sim-with g d cs σ b {ρ} {ρb} e tb eb i h =
+  sim-with g d cs σ b {ρ} {ρb} e tb eb h =
       step-is τ (view P (record { g = g; d = d; cs = cs })) σ
-      ∙ (ap (λ x. perform τ (act (at τ x) (head τ x d) d) (spot g d cs x) σ) (rw e tb)
-      ∙ (ap (λ α. perform τ α (spot g d cs b) σ) (ap (λ r. act r (head τ b d) d) (at-is τ b ∙ ap forget eb) ∙ i)
+      ∙ (ap (λ x. perform τ (act (at τ x) d) (spot g d cs x) σ) (rw e tb)
+      ∙ (ap (λ r. perform τ (act r d) (spot g d cs b) σ) (at-is τ b ∙ ap forget eb)
       ∙ (h ∙ ap (λ k. seen P (through τ P (port k (met g d) d) (met g d) d cs σ)) (sym e))))
 
-  encl-gap : (c : ℕ) (d : Dir) → SimpleOk P c → P .encl c ≡ P .encl (gap c d)
+  pub encl-gap : (c : ℕ) (d : Dir) → SimpleOk P c → P .encl c ≡ P .encl (gap c d)
   encl-gap c down k = refl
   encl-gap c up k = k .en
 
-  encl-met : (g : ℕ) (d : Dir) → SimpleOk P (met g d) → P .encl (met g d) ≡ P .encl g
+  pub encl-met : (g : ℕ) (d : Dir) → SimpleOk P (met g d) → P .encl (met g d) ≡ P .encl g
   encl-met g down k = k .en
   encl-met g up k = refl
 

@@ -9,7 +9,7 @@ use native.Mathlib.Omega.{arith}
 use borrow.Author.Tests.{ltb-false, le-ltb}
 use Rattle.order.specs.Trees.{Tree}
 use Rattle.moves.specs.Edges.{Frame, called}
-use Rattle.moves.specs.Places.{Dir, Place, calls, gate}
+use Rattle.moves.specs.Places.{Dir, Place, head, calls, gate}
 use Rattle.moves.specs.Stores.{Reason, atEnd, wrongValue, tooDeep, Answer, ok, no, bind, Store, holds, assigned}
 use Rattle.moves.specs.Step.{after, again, must}
 use Rattle.moves.specs.Step as does
@@ -21,17 +21,17 @@ ok-no a r e = absurd (let z : _≡_ {A = ℕ} 0 1 = cc in let y : ⊥ = omega ar
 pub no-no : {A : Type 0} {r r′ : Reason} → _≡_ {A = Answer A} (no r) (no r′) → r ≡ r′
 no-no e = cc
 
--- ---- by what the step executes
-abbrev pub Refuses : Tree → Act → Dir → List Frame → Store → Reason → Type 0
-Refuses τ (assigns o x e) d fs σ r = assigned τ o x e d σ ≡ no r
-Refuses τ moves d fs σ r = ⊥
-Refuses τ (chooses e h) d fs σ r = holds τ σ e ≡ no r
-Refuses τ (closes e) d fs σ r = (holds τ σ e ≡ no r) ⊎ ((holds τ σ e ≡ ok (not (wanted fs))) × (r ≡ wrongValue))
-Refuses τ (opens e h) d fs σ r = (holds τ σ e ≡ no r) ⊎ ((holds τ σ e ≡ ok (again h fs)) × (r ≡ wrongValue))
-Refuses τ (tests e) d fs σ r = holds τ σ e ≡ no r
-Refuses τ (enters q d′) d fs σ r = (64 ≤ calls fs) × (r ≡ tooDeep)
-Refuses τ returns d fs σ r = (fs ≡ []) × (r ≡ atEnd)
-Refuses τ nothing d fs σ r = ⊥
+-- ---- by what the step executes; `h` is the construct that is entered there
+abbrev pub Refuses : Tree → (h : ℕ) → Act → Dir → List Frame → Store → Reason → Type 0
+Refuses τ h (assigns o x e) d fs σ r = assigned τ o x e d σ ≡ no r
+Refuses τ h moves d fs σ r = ⊥
+Refuses τ h (chooses e) d fs σ r = holds τ σ e ≡ no r
+Refuses τ h (closes e) d fs σ r = (holds τ σ e ≡ no r) ⊎ ((holds τ σ e ≡ ok (not (wanted fs))) × (r ≡ wrongValue))
+Refuses τ h (opens e) d fs σ r = (holds τ σ e ≡ no r) ⊎ ((holds τ σ e ≡ ok (again h fs)) × (r ≡ wrongValue))
+Refuses τ h (tests e) d fs σ r = holds τ σ e ≡ no r
+Refuses τ h (enters q d′) d fs σ r = (64 ≤ calls fs) × (r ≡ tooDeep)
+Refuses τ h returns d fs σ r = (fs ≡ []) × (r ≡ atEnd)
+Refuses τ h nothing d fs σ r = ⊥
 
 bind-no : {A B : Type 0} (a : Answer A) (k : A → B) (r : Reason) → bind a (λ v. ok (k v)) ≡ no r ↔ a ≡ no r
 unfolding bind
@@ -65,13 +65,13 @@ return-no : (τ : Tree) (p : Place) (fs : List Frame) (σ : Store) (r : Reason) 
 return-no τ p [] σ r = (λ e. (refl, cc), λ h. let k = h .1 in cc)
 return-no τ p (f ∷ F) σ r = (λ e. ok-no _ r e, λ h. let k = h .0 in cc)
 
-pub perform-no : (τ : Tree) (α : Act) (p : Place) (σ : Store) (r : Reason) → perform τ α p σ ≡ no r ↔ Refuses τ α (p .d) (p .frames) σ r
+pub perform-no : (τ : Tree) (α : Act) (p : Place) (σ : Store) (r : Reason) → perform τ α p σ ≡ no r ↔ Refuses τ (head τ (p .b) (p .d)) α (p .d) (p .frames) σ r
 unfolding perform
 perform-no τ (assigns o x e) p σ r = bind-no (assigned τ o x e (p .d) σ) _ r
 perform-no τ moves p σ r = (λ e. ok-no _ r e, λ h. absurd h)
-perform-no τ (chooses e h) p σ r = bind-no (holds τ σ e) _ r
+perform-no τ (chooses e) p σ r = bind-no (holds τ σ e) _ r
 perform-no τ (closes e) p σ r = must-no (holds τ σ e) (wanted (p .frames)) _ r
-perform-no τ (opens e h) p σ r = open-no (holds τ σ e) (again h (p .frames)) _ _ r
+perform-no τ (opens e) p σ r = open-no (holds τ σ e) (again (head τ (p .b) (p .d)) (p .frames)) _ _ r
 perform-no τ (tests e) p σ r = bind-no (holds τ σ e) _ r
 perform-no τ (enters q d) p σ r =
     let k = deep-no {A = Place × Store} (ltb (calls (p .frames)) 64) (after τ (gate τ q d) d (called (p .b) ∷ p .frames), σ) r in
