@@ -14,8 +14,8 @@ use Rattle.moves.proofs.Sizes.{sizeS, sizeB}
 use Rattle.moves.specs.Edges.{Frame, inThen, inElse, inDo, inLoop}
 use Rattle.moves.specs.Step.{again}
 use Rattle.moves.proofs.Linked.{Rec, setL, skipL, callL, uncallL, Prog, onto}
-use Rattle.moves.proofs.Cuts.{Span, CondOk, LoopOk, Undoes, SimpleOk, ProcOk, Local}
-use Rattle.moves.proofs.Rows.{con, rowsS, rowsB, lengthS, lengthB, Holds, holds-left, holds-right, holds-around, entryB, endS, endB}
+use Rattle.moves.proofs.Cuts.{Span, ConOk, Undoes, SimpleOk, ProcOk, Local}
+use Rattle.moves.proofs.Rows.{row, con, Wrapped, rowsS, rowsB, lengthS, lengthB, Holds, holds-left, holds-right, holds-around, entryB, endS, endB}
 
 -- What refusals 7 and 8 leave: calls of procedures that are there, and SETs that can be undone.
 abbrev mutual
@@ -101,40 +101,21 @@ module _ (τ : Tree) (P : Prog) (Q : ℕ → Type 0) (Q→ok : (q : ℕ) → Q q
     near = λ q x a b a′ b′. let h = c .near q x a (omega arith) a′ b′ in (h .0, omega arith);
   }
 
-  pub cond-ok : (F : List Frame) (n : ℕ) (e : Expr) (s t : Block) (e′ : Expr) → Holds P n (rowsS (ifS e s t e′) F n)
-      → Ctx P F n (n + suc (sizeB s + suc (sizeB t + 1))) → CondOk P (con n e s t e′)
-  unfolding sizeS rowsS
-  cond-ok F n e s t e′ h c =
-      let w = holds-around P n (sizeB s) (sizeB t) _ _ _ _ _ (lengthB s _ _) (lengthB t _ _) h in
-      record {
-        at-l = w .at-l;
-        at-m = w .at-m;
-        at-r = w .at-r;
-        en-l = rw (c .before) (w .en-l);
-        en-m′ = rw (c .before) (endB P s _ _ (w .left));
-        en-m = rw (c .before) (w .en-m);
-        en-r′ = rw (c .before) (endB P t _ _ (w .right));
-        en-r = rw (c .before) (w .en-r);
-        span = span F n e s t e′ c (entryB P s _ _ (w .left)) (entryB P t _ _ (w .right));
-      }
-
-  pub loop-ok : (F : List Frame) (n : ℕ) (e : Expr) (s t : Block) (e′ : Expr) → Holds P n (rowsS (fromS e s t e′) F n)
-      → Ctx P F n (n + suc (sizeB s + suc (sizeB t + 1))) → LoopOk P (con n e s t e′)
-  unfolding sizeS rowsS
-  loop-ok F n e s t e′ h c =
-      let w = holds-around P n (sizeB s) (sizeB t) _ _ _ _ _ (lengthB s _ _) (lengthB t _ _) h in
-      record {
-        at-l = w .at-l;
-        at-m = w .at-m;
-        at-r = w .at-r;
-        en-l = rw (c .before) (w .en-l);
-        en-m′ = rw (c .before) (endB P s _ _ (w .left));
-        en-m = rw (c .before) (w .en-m);
-        en-r′ = rw (c .before) (endB P t _ _ (w .right));
-        en-r = rw (c .before) (w .en-r);
-        fresh = λ i h. rw (c .before) (c .fresh i h);
-        span = span F n e s t e′ c (entryB P s _ _ (w .left)) (entryB P t _ _ (w .right));
-      }
+  pub con-ok : (F : List Frame) (n : ℕ) (e : Expr) (s t : Block) (e′ : Expr) {ρl ρm ρr : Rec} {f g : Frame}
+      → Wrapped P n (suc n + sizeB s) (suc (suc n + sizeB s) + sizeB t) (row ρl (f ∷ F)) (rowsB s (f ∷ F) (suc n)) (row ρm (g ∷ F)) (rowsB t (g ∷ F) (suc (suc n + sizeB s))) (row ρr F)
+      → Ctx P F n (n + suc (sizeB s + suc (sizeB t + 1))) → ConOk P (con n e s t e′) ρl ρm ρr f g
+  con-ok F n e s t e′ w c = record {
+    at-l = w .at-l;
+    at-m = w .at-m;
+    at-r = w .at-r;
+    en-l = rw (c .before) (w .en-l);
+    en-m′ = rw (c .before) (endB P s _ _ (w .left));
+    en-m = rw (c .before) (w .en-m);
+    en-r′ = rw (c .before) (endB P t _ _ (w .right));
+    en-r = rw (c .before) (w .en-r);
+    fresh = λ i h. rw (c .before) (c .fresh i h);
+    span = span F n e s t e′ c (entryB P s _ _ (w .left)) (entryB P t _ _ (w .right));
+  }
 
   mutual
     unfolding sizeS rowsS
@@ -147,7 +128,7 @@ module _ (τ : Tree) (P : Prog) (Q : ℕ → Type 0) (Q→ok : (q : ℕ) → Q q
     localS (uncallS q) F n h f c x a b = put x n (uncallL q) (omega arith) (h .0) (Q→ok q f, simple n F (h .1) c)
     localS (ifS e s t e′) F n h f c x a b =
         let w = holds-around P n (sizeB s) (sizeB t) _ _ _ _ _ (lengthB s _ _) (lengthB t _ _) h in
-        let k = cond-ok F n e s t e′ h c in
+        let k = con-ok F n e s t e′ w c in
         pick5 n (sizeB s) (sizeB t) x _ a b
         (λ i. put x n _ i (w .at-l) (refl, k))
         (λ i′ j′. localB s (inThen n ∷ F) (suc n) (w .left) (f .0) (inner F n _ c _ _ _ (w .en-l) (omega arith) (omega arith) (λ i j. refl)) x i′ j′)
@@ -156,7 +137,7 @@ module _ (τ : Tree) (P : Prog) (Q : ℕ → Type 0) (Q→ok : (q : ℕ) → Q q
         (λ i. put x _ _ i (w .at-r) (refl, k))
     localS (fromS e s t e′) F n h f c x a b =
         let w = holds-around P n (sizeB s) (sizeB t) _ _ _ _ _ (lengthB s _ _) (lengthB t _ _) h in
-        let k = loop-ok F n e s t e′ h c in
+        let k = con-ok F n e s t e′ w c in
         pick5 n (sizeB s) (sizeB t) x _ a b
         (λ i. put x n _ i (w .at-l) (refl, k))
         (λ i′ j′. localB s (inDo n ∷ F) (suc n) (w .left) (f .0) (inner F n _ c _ _ _ (w .en-l) (omega arith) (omega arith) (λ i j. refl)) x i′ j′)
