@@ -1,15 +1,15 @@
 -- What each record of a statement has beside it: its construct's three records, the frames around them, its procedure.
 use Prim.Native.Nat.{ℕ, suc, _+_, _≤_, _<_, pred}
 use mathlib.Core.Path.{_≡_, refl, sym, _∙_}
-use mathlib.Core.Bool.{Bool, true, false}
+use mathlib.Core.Bool.{false}
 use mathlib.Core.List.{List, _∷_}
-use mathlib.Core.Logic.{_⊎_, inl, inr}
-use lib.Dec.{ltb}
+use mathlib.Core.Logic.{_⊎_, inl, inr, ⊎-elim}
 use native.Mathlib.Omega.{arith}
-use borrow.Author.Tests.{ltb-true, ltb-false, ne-eqb}
+use borrow.Author.Tests.{ne-eqb}
 use Rattle.expr.specs.Tree.{Expr}
 use Rattle.records.specs.Records.{Target}
 use Rattle.order.specs.Trees.{Stmt, setS, skipS, callS, uncallS, ifS, fromS, Block, one, _then_, Tree}
+use Rattle.order.proofs.OrderReads.{le-or-lt}
 use Rattle.moves.proofs.Sizes.{sizeS, sizeB}
 use Rattle.moves.specs.Edges.{Frame, inThen, inElse, inDo, inLoop}
 use Rattle.moves.specs.Step.{again}
@@ -31,20 +31,11 @@ abbrev mutual
   FineB (one s) Q U = FineS s Q U
   FineB (_then_ s b) Q U = FineS s Q U × FineB b Q U
 
-pub which : (x y : ℕ) → (x < y) ⊎ ((x ≡ y) ⊎ (y < x))
-which x y = go′ (ltb x y) refl (ltb y x) refl
-  where
-    go′ : (b : Bool) → ltb x y ≡ b → (c : Bool) → ltb y x ≡ c → (x < y) ⊎ ((x ≡ y) ⊎ (y < x))
-    go′ true h c k = inl (ltb-true x y h)
-    go′ false h true k = inr (inr (ltb-true y x k))
-    go′ false h false k = let a = ltb-false x y h in let b = ltb-false y x k in inr (inl (omega arith))
-
 pub either : (x y : ℕ) {L : Type 0} → (x < y → L) → (y ≤ x → L) → L
-either x y {L} f g = go′ (ltb x y) refl
-  where
-    go′ : (b : Bool) → ltb x y ≡ b → L
-    go′ true h = f (ltb-true x y h)
-    go′ false h = g (ltb-false x y h)
+either x y f g = ⊎-elim g f (le-or-lt y x)
+
+pub which : (x y : ℕ) → (x < y) ⊎ ((x ≡ y) ⊎ (y < x))
+which x y = either x y (λ h. inl h) (λ h. inr (either y x (λ k. inr k) (λ k. inl (omega arith))))
 
 -- Where a block stands: from label n to before label k, inside the constructs F.
 pub record Ctx (P : Prog) (F : List Frame) (n k : ℕ) : Type 0 where
