@@ -191,11 +191,11 @@ module _ (τ : Tree) (w : Wf τ (prog τ)) where
       ap (λ p. ok (p, σ)) (rw (r, ac) (arrive c c d′ cs′ _ (fit τ P q′ cs′ o (omega arith) c d′ lo hi) (omega arith) (rw ac (side-uncall q c (opp d′)))
       (ap (λ k. k ++ stack P cs′) (encl-gap c d′ (at-uncall c q ac)))))
 
-  gate-side : (q : ℕ) (d : Dir) → ProcOk P q → side (P .at (gateL P q d)) (gateL P q d) (opp d) ≡ gateL P q d
+  pub gate-side : (q : ℕ) (d : Dir) → ProcOk P q → side (P .at (gateL P q d)) (gateL P q d) (opp d) ≡ gateL P q d
   gate-side q down k = rw (k .at-first)
   gate-side q up k = rw (k .at-last)
 
-  gate-encl : (q : ℕ) (d : Dir) → ProcOk P q → P .encl (gap (gateL P q d) d) ≡ []
+  pub gate-encl : (q : ℕ) (d : Dir) → ProcOk P q → P .encl (gap (gateL P q d) d) ≡ []
   gate-encl q down k = k .en-first
   gate-encl q up k = k .en-last
 
