@@ -1,4 +1,4 @@
--- What executing a record is, as one of nine acts: the proofs go by these. `step-is` says that the step is the act of the record that is met.
+-- What executing a record is, as one of ten acts: the proofs go by these. `step-is` says that the step is the act of the record that is met.
 use Prim.Native.Nat.{ℕ}
 use mathlib.Core.Path.{_≡_, refl}
 use mathlib.Core.List.{List}
@@ -9,9 +9,9 @@ use Rattle.records.specs.Records.{Target, Record, names, begin, end, assign, if
 use Rattle.order.specs.Trees.{Tree}
 use Rattle.moves.specs.Labels.{at}
 use Rattle.moves.specs.Edges.{Frame, frameKind}
-use Rattle.moves.specs.Places.{Dir, down, up, going, opp, Place, top}
-use Rattle.moves.specs.Stores.{Answer, ok, bind, Store, assigned}
-use Rattle.moves.specs.Step.{after, executes, step}
+use Rattle.moves.specs.Places.{Dir, down, up, going, Place, top}
+use Rattle.moves.specs.Stores.{Answer, ok, Store}
+use Rattle.moves.specs.Step.{executes, step}
 use Rattle.moves.specs.Step as does
 
 pub data Act : Type 0 where
@@ -21,7 +21,7 @@ pub data Act : Type 0 where
   closes : Expr → Act
   opens : Expr → Act
   tests : Expr → Act
-  enters : ℕ → Dir → Act
+  enters enters-back : ℕ → Act
   returns : Act
   nothing : Act
 
@@ -36,8 +36,8 @@ act (fi e) d = going d (closes e) (chooses e)
 act (from e) d = going d (opens e) (tests e)
 act loop d = nothing
 act (until e) d = going d (tests e) (opens e)
-act (call q) d = enters q d
-act (uncall q) d = enters q (opp d)
+act (call q) d = enters q
+act (uncall q) d = enters-back q
 act skip d = moves
 
 -- The innermost frame wants this value: 0 true, 1 false.
@@ -45,13 +45,14 @@ abbrev pub wanted : List Frame → Bool
 wanted fs = eqb (frameKind (top fs)) 0
 
 unfoldable pub perform : Tree → Act → Place → Store → Answer (Place × Store)
-perform t (assigns o x e) p σ = bind (assigned t o x e (p .d) σ) (λ σ′. ok (after t (p .b) (p .d) (p .frames), σ′))
-perform t moves p σ = ok (after t (p .b) (p .d) (p .frames), σ)
+perform t (assigns o x e) p σ = executes t p σ (assign o x e)
+perform t moves p σ = executes t p σ skip
 perform t (chooses e) p σ = does.chooses t p σ e
 perform t (closes e) p σ = does.closes t p σ e
 perform t (opens e) p σ = does.opens t p σ e
 perform t (tests e) p σ = does.tests t p σ e
-perform t (enters q d) p σ = does.enters t p σ q d
+perform t (enters q) p σ = executes t p σ (call q)
+perform t (enters-back q) p σ = executes t p σ (uncall q)
 perform t returns p σ = does.returns t p σ (p .frames)
 perform t nothing p σ = ok (p, σ)
 

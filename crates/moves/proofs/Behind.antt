@@ -18,11 +18,11 @@ use Rattle.moves.specs.Labels.{at}
 use Rattle.moves.specs.Edges.{Frame, inDo}
 use Rattle.moves.specs.Places.{Dir, down, up, going, Place, head, calls}
 use Rattle.moves.specs.Stores.{Reason, Answer, ok, no, bind, Store, layout, answered, evaluated, holds, applied, operator, cellOf, assigned}
-use Rattle.moves.specs.Step.{after, again, must, step}
+use Rattle.moves.specs.Step.{after, again, must, executes, step}
 use Rattle.moves.specs.Step as does
 use Rattle.moves.specs.Runs.{Ran, onward, runBy, run}
 use Rattle.moves.proofs.Runs.{counted}
-use Rattle.moves.proofs.Acts.{Act, assigns, moves, chooses, closes, opens, tests, enters, returns, nothing, act, wanted, perform, step-is}
+use Rattle.moves.proofs.Acts.{Act, assigns, moves, chooses, closes, opens, tests, enters, enters-back, returns, nothing, act, wanted, perform, step-is}
 use Rattle.moves.proofs.Follow.{and-true}
 use Rattle.moves.proofs.Assign.{cell-there}
 
@@ -53,7 +53,8 @@ Aims t (chooses e) = Unit {0}
 Aims t (closes e) = Unit {0}
 Aims t (opens e) = Unit {0}
 Aims t (tests e) = Unit {0}
-Aims t (enters q d) = Unit {0}
+Aims t (enters q) = Unit {0}
+Aims t (enters-back q) = Unit {0}
 Aims t returns = Unit {0}
 Aims t nothing = Unit {0}
 
@@ -143,7 +144,7 @@ module _ (t : Tree) (zs : Store) (zeros : Zeros zs) where
   return-wide p (f ∷ F) σ n = came refl n
 
   act-wide : (a : Act) → Aims t a → (p : Place) (σ : Store) → length σ ≡ cells t → Wide (perform t a p σ) (perform t a p (σ ++ zs))
-  unfolding perform
+  unfolding perform executes
   act-wide (assigns o x e) h p σ n = set-wide o x e (p .d) (after t (p .b) (p .d) (p .frames)) σ h n
   act-wide moves h p σ n = came refl n
   act-wide (chooses e) h p σ n = tested e σ _ _ (λ v. came refl n)
@@ -153,7 +154,8 @@ module _ (t : Tree) (zs : Store) (zeros : Zeros zs) where
       tested e σ _ _
       (λ v. either (again l (p .frames)) (must-wide (not v) (after t (p .b) (p .d) (inDo l ∷ tail (p .frames))) σ n) (must-wide v (after t (p .b) (p .d) (inDo l ∷ p .frames)) σ n))
   act-wide (tests e) h p σ n = tested e σ _ _ (λ v. came refl n)
-  act-wide (enters q d) h p σ n = either (ltb (calls (p .frames)) 64) (came refl n) refused
+  act-wide (enters q) h p σ n = either (ltb (calls (p .frames)) 64) (came refl n) refused
+  act-wide (enters-back q) h p σ n = either (ltb (calls (p .frames)) 64) (came refl n) refused
   act-wide returns h p σ n = return-wide p (p .frames) σ n
   act-wide nothing h p σ n = came refl n
 

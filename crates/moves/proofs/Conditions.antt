@@ -18,7 +18,7 @@ use Rattle.moves.specs.Places.{Dir, down, up, going, calls}
 use Rattle.moves.specs.Stores.{Reason, atEnd, wrongValue, badIndex, tooDeep, Answer, ok, no, bind, Store, layout, reasonOf, answered, evaluated, holds, entryAt, cellOf, assigned}
 use Rattle.moves.specs.Step.{again}
 use Rattle.moves.specs.Reasons.{Misses, Stops, in-read, misses, Faults, in-only, in-index, in-entry, Meets, ends, then-false, else-true, outside-false, again-true, by-zero, no-entry, deep}
-use Rattle.moves.proofs.Acts.{Act, assigns, moves, chooses, closes, opens, tests, enters, returns, nothing, act, wanted}
+use Rattle.moves.proofs.Acts.{Act, assigns, moves, chooses, closes, opens, tests, enters, enters-back, returns, nothing, act, wanted}
 use Rattle.moves.proofs.Why.{ok-no, no-no, Refuses}
 use Rattle.moves.proofs.Stopping.{stopped, stops-eval}
 
@@ -162,7 +162,8 @@ Shape (chooses e) fs = Unit {0}
 Shape (closes e) fs = Branch fs
 Shape (opens e) fs = Unit {0}
 Shape (tests e) fs = Unit {0}
-Shape (enters q d) fs = Unit {0}
+Shape (enters q) fs = Unit {0}
+Shape (enters-back q) fs = Unit {0}
 Shape returns fs = Top fs
 Shape nothing fs = ⊥
 

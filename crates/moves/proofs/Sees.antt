@@ -10,7 +10,7 @@ use Rattle.order.specs.Trees.{Tree}
 use Rattle.moves.specs.Edges.{Frame, inDo, inLoop}
 use Rattle.moves.specs.Places.{Dir, down, up, opp, head}
 use Rattle.moves.specs.Stores.{ok, Store, holds, assigned}
-use Rattle.moves.specs.Step.{after, again, step}
+use Rattle.moves.specs.Step.{after, again, executes, step}
 use Rattle.moves.proofs.Linked.{Con, Rec, nameL, beginL, endL, setL, skipL, ifL, elseL, fiL, fromL, loopL, untilL, callL, uncallL, Prog}
 use Rattle.moves.proofs.Cuts.{Cut, met, leave, arm, port, through, cstep, Span, Local, Wf, by-call, by-uncall, Sits}
 use Rattle.moves.proofs.Loop.{lo-met, hi-met, fit-gate, not-begin, not-end}
@@ -54,7 +54,7 @@ module _ (τ : Tree) (w : Wf τ (prog τ)) where
 
   sim : (g : ℕ) (d : Dir) (cs : List ℕ) (σ : Store) (ρ : Rec) → P .at (met g d) ≡ ρ → Local τ P ρ (met g d) → (F : Sits P (record { g = g; d = d; cs = cs }))
       → step τ (view P (record { g = g; d = d; cs = cs })) σ ≡ seen P (cstep τ P (record { g = g; d = d; cs = cs }) σ)
-  unfolding port act perform through seen
+  unfolding port act perform executes through seen
   sim g d cs σ (nameL v ls) e h F = absurd (h (F .q) (lo-met τ P g d cs F) (hi-met τ P g d cs F))
   sim g down cs σ (beginL q) e h F = absurd (not-begin τ P g cs q h F)
   sim g up cs σ (beginL q) e (h, k, u) F =

@@ -20,7 +20,7 @@ use Rattle.moves.proofs.Cuts.{Cut, met, gap, leave, enter′, return′
 use Rattle.moves.proofs.Loop.{met-gap, pos1, gate-pos, fit, fit1, fit3}
 use Rattle.moves.proofs.Rows.{prog}
 use Rattle.moves.proofs.Links.{at-is}
-use Rattle.moves.proofs.Acts.{act, enters, perform, step-is}
+use Rattle.moves.proofs.Acts.{act, perform, step-is}
 use Rattle.moves.proofs.Gaps.{tip}
 use Rattle.moves.proofs.Follow.{ahead, ahead-gap, gate-is}
 
@@ -207,8 +207,8 @@ module _ (τ : Tree) (w : Wf τ (prog τ)) where
 
   pub enter-sim : (g : ℕ) (d : Dir) (cs : List ℕ) (σ : Store) (q : ℕ) (d′ : Dir) → ProcOk P q → SimpleOk P (met g d)
       → (length cs < 64 → Sits P (leave (gateL P q d′) d′ (met g d ∷ cs)))
-      → perform τ (enters q d′) (spot g d cs (met g d)) σ ≡ seen P (through τ P (enter′ q d′) (met g d) d cs σ)
-  unfolding perform through seen
+      → does.enters τ (spot g d cs (met g d)) σ q d′ ≡ seen P (through τ P (enter′ q d′) (met g d) d cs σ)
+  unfolding through seen
   enter-sim g d cs σ q d′ k o f = rw (calls-stack g cs) (go′ (ltb (length cs) 64) refl)
     where
       go′ : (b : Bool) → ltb (length cs) 64 ≡ b

@@ -164,60 +164,11 @@ pub ruleset keeping = (
 
 -- ---- Each kind has its function.
 module _ (r : Open) (s : State) (k : ℕ) where
-  pub on-1 : k ≡ 1 → Keeps r (named s) → Keeps r (next s k)
-  unfolding next
-  on-1 p h = rw p h
-
-  pub on-2 : k ≡ 2 → Keeps r (begun s) → Keeps r (next s k)
-  unfolding next
-  on-2 p h = rw p h
-
-  pub on-3 : k ≡ 3 → Keeps r (ended s) → Keeps r (next s k)
-  unfolding next
-  on-3 p h = rw p h
-
-  pub on-4 : k ≡ 4 → Keeps r (passed s) → Keeps r (next s k)
-  unfolding next
-  on-4 p h = rw p h
-
-  pub on-5 : k ≡ 5 → Keeps r (opened 0 s) → Keeps r (next s k)
-  unfolding next
-  on-5 p h = rw p h
-
-  pub on-6 : k ≡ 6 → Keeps r (turned 0 s) → Keeps r (next s k)
-  unfolding next
-  on-6 p h = rw p h
-
-  pub on-7 : k ≡ 7 → Keeps r (closed 1 s) → Keeps r (next s k)
-  unfolding next
-  on-7 p h = rw p h
-
-  pub on-8 : k ≡ 8 → Keeps r (opened 2 s) → Keeps r (next s k)
-  unfolding next
-  on-8 p h = rw p h
-
-  pub on-9 : k ≡ 9 → Keeps r (turned 2 s) → Keeps r (next s k)
-  unfolding next
-  on-9 p h = rw p h
-
-  pub on-10 : k ≡ 10 → Keeps r (closed 3 s) → Keeps r (next s k)
-  unfolding next
-  on-10 p h = rw p h
-
-  pub on-11 : k ≡ 11 → Keeps r (passed s) → Keeps r (next s k)
-  unfolding next
-  on-11 p h = rw p h
-
-  pub on-12 : k ≡ 12 → Keeps r (passed s) → Keeps r (next s k)
-  unfolding next
-  on-12 p h = rw p h
-
-  pub on-13 : k ≡ 13 → Keeps r (passed s) → Keeps r (next s k)
-  unfolding next
-  on-13 p h = rw p h
+  pub on-kind : (j : ℕ) → k ≡ j → Keeps r (next s j) → Keeps r (next s k)
+  on-kind j p h = rw p h
 
   pub on-none : (k ≡ 1 → ⊥) → (k ≡ 2 → ⊥) → (k ≡ 3 → ⊥) → (k ≡ 5 → ⊥) → (k ≡ 6 → ⊥) → (k ≡ 7 → ⊥) → (k ≡ 8 → ⊥) → (k ≡ 9 → ⊥) → (k ≡ 10 → ⊥) → (k ≡ 4 → ⊥) → (k ≡ 11 → ⊥) → (k ≡ 12 → ⊥) → (k ≡ 13 → ⊥) → Keeps r (at 5 []) → Keeps r (next s k)
   unfolding next
   on-none p1 p2 p3 p5 p6 p7 p8 p9 p10 p4 p11 p12 p13 h = rw (ne-eqb k 1 p1, ne-eqb k 2 p2, ne-eqb k 3 p3, ne-eqb k 5 p5, ne-eqb k 6 p6, ne-eqb k 7 p7, ne-eqb k 8 p8, ne-eqb k 9 p9, ne-eqb k 10 p10, ne-eqb k 4 p4, ne-eqb k 11 p11, ne-eqb k 12 p12, ne-eqb k 13 p13) h
 
-pub ruleset kinds = (on-1, on-2, on-3, on-4, on-5, on-6, on-7, on-8, on-9, on-10, on-11, on-12, on-13, on-none)
+pub ruleset kinds = (on-kind, on-none)
