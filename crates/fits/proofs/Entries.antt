@@ -25,10 +25,11 @@ use Rattle.moves.proofs.Whole.{there}
 use Rattle.moves.proofs.Links.{at-is, at-skip}
 use Rattle.moves.proofs.Gaps.{tip}
 use Rattle.moves.proofs.Accepted.{accepted-wf}
+use Rattle.moves.proofs.Follow.{clash}
 use Rattle.table.proofs.Facts.{facts}
 use Rattle.table.proofs.Tabled.{Tabled, openOf}
 use Rattle.fits.specs.Fits.{entryAt, callKind, calleeOf}
-use Rattle.fits.proofs.Cases.{clash, slot-in}
+use Rattle.fits.proofs.Cases.{slot-in}
 
 -- ---- a record that calls
 abbrev pub Calls : Prog → ℕ → ℕ → Type 0

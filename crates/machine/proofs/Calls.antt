@@ -23,7 +23,7 @@ use Rattle.moves.proofs.Links.{at-is, at-skip}
 use Rattle.moves.proofs.Accepted.{accepted-wf}
 use Rattle.moves.proofs.View.{stack, side-call, side-uncall, encl-met, encl-gap}
 use Rattle.moves.proofs.View as seen
-use Rattle.moves.proofs.Follow.{and-true}
+use Rattle.expr.proofs.Layer.{and-true}
 use Rattle.table.proofs.Facts.{facts}
 use Rattle.table.proofs.Tabled.{Tabled}
 use Rattle.decide.specs.declared.Move.{Move}

@@ -23,7 +23,7 @@ use Rattle.moves.specs.Step as does
 use Rattle.moves.specs.Runs.{Ran, onward, runBy, run}
 use Rattle.moves.proofs.Runs.{counted}
 use Rattle.moves.proofs.Acts.{Act, assigns, moves, chooses, closes, opens, tests, enters, enters-back, returns, nothing, act, wanted, perform, step-is}
-use Rattle.moves.proofs.Follow.{and-true}
+use Rattle.expr.proofs.Layer.{and-true}
 use Rattle.moves.proofs.Assign.{cell-there}
 
 -- Nothing but zeros.

@@ -6,6 +6,7 @@ use mathlib.Core.List.{List, [], _∷_, _++_, List·Memᴰ, List·Memᴰ·head, 
 use lib.Dec.{eqb}
 use native.Mathlib.Omega.{arith}
 use borrow.Author.Tests.{eq-eqb, eqb-true, eqb-false}
+use Rattle.expr.proofs.Layer.{and-true}
 use Rattle.records.specs.Records.{kind}
 use Rattle.order.specs.Trees.{Tree}
 use Rattle.moves.specs.Labels.{at}
@@ -34,16 +35,12 @@ frame-is (inDo l) = refl
 frame-is (inLoop l) = refl
 frame-is (called l) = refl
 
-pub and-true : (a b : Bool) → (a && b) ≡ true → (a ≡ true) × (b ≡ true)
-and-true true b h = (refl, h)
-and-true false b h = absurd (let z : _≡_ {A = ℕ} 0 1 = cc in let y : ⊥ = omega arith in y)
-
 same-frame : (f g : Frame) → eqb (frameKind f) (frameKind g) ≡ true → eqb (frameLabel f) (frameLabel g) ≡ true → f ≡ g
 same-frame f g h k = sym (frame-is f) ∙ (ap₂ frame (eqb-true _ _ h) (eqb-true _ _ k) ∙ frame-is g)
 
 -- ---- the frames down to the first call
-true-false : {X : Type 0} {b : Bool} → b ≡ true → b ≡ false → X
-true-false h k = absurd (let z : _≡_ {A = ℕ} 0 1 = cc in let y : ⊥ = omega arith in y)
+pub clash : {X : Type 0} {b : Bool} → b ≡ true → b ≡ false → X
+clash h k = absurd (let z : _≡_ {A = ℕ} 0 1 = cc in let y : ⊥ = omega arith in y)
 
 no-call : (f : Frame) (F : List Frame) → calls (f ∷ F) ≡ 0 → (eqb (frameKind f) 4 ≡ false) × (calls F ≡ 0)
 no-call f F h = go′ (eqb (frameKind f) 4) h
@@ -58,11 +55,11 @@ inside-is (f ∷ F) S h = rw (eq-eqb (frameKind f) (frameKind f) refl, eq-eqb (f
 
 pub inside-only : (G F S : List Frame) → inside [] S ≡ true → calls G ≡ 0 → calls F ≡ 0 → inside G (F ++ S) ≡ true → G ≡ F
 inside-only [] [] S s g h k = refl
-inside-only [] (f ∷ F) S s g h k = true-false k (no-call f F h .0)
-inside-only (x ∷ G) [] [] s g h k = true-false {b = false} k refl
+inside-only [] (f ∷ F) S s g h k = clash k (no-call f F h .0)
+inside-only (x ∷ G) [] [] s g h k = clash {b = false} k refl
 inside-only (x ∷ G) [] (y ∷ S) s g h k =
     let e = eqb-true (frameKind x) (frameKind y) (and-true _ _ k .0) in
-    true-false (ap (λ n. eqb n 4) e ∙ s) (no-call x G g .0)
+    clash (ap (λ n. eqb n 4) e ∙ s) (no-call x G g .0)
 inside-only (x ∷ G) (f ∷ F) S s g h k =
     let y = and-true _ _ k in let z = and-true _ _ (y .1) in
     ap₂ _∷_ (same-frame x f (y .0) (z .0)) (inside-only G F S s (no-call x G g .1) (no-call f F h .1) (z .1))
@@ -77,7 +74,7 @@ find-is {X} f x (e ∷ es) e₀ m h u = go′ (f e) refl m (λ k. find-is f x es
     go′ : (b : Bool) → f e ≡ b → List·Memᴰ e₀ (e ∷ es) → (List·Memᴰ e₀ es → x (find f es) ≡ x e₀) → x (cond b e (find f es)) ≡ x e₀
     go′ true k m ih = u e (List·Memᴰ·head refl) k
     go′ false k (List·Memᴰ·tail m) ih = ih m
-    go′ false k (List·Memᴰ·head q) ih = true-false h (ap f q ∙ k)
+    go′ false k (List·Memᴰ·head q) ih = clash h (ap f q ∙ k)
 
 -- ---- how a label stands at the upper end and at the lower end of a gap
 data Upper (P : Prog) (g a : ℕ) : Type 0 where
