@@ -2,7 +2,7 @@
 use Prim.Native.Nat.{ℕ, zero, suc, _+_, _-_, _≤_, _<_}
 use mathlib.Core.Path.{_≡_, refl, ap, ap₂, _∙_}
 use mathlib.Core.List.{List, [], _∷_}
-use mathlib.Core.Bool.{Bool, true, false, _||_}
+use mathlib.Core.Bool.{Bool, true, false, _&&_, _||_}
 use mathlib.Core.Logic.{_⊎_, inl, inr}
 use native.Mathlib.Omega.{arith}
 use native.Mathlib.Numerals.{add-one}
@@ -10,7 +10,7 @@ use borrow.Author.Tests.{lt-ltb, le-ltb, eq-eqb, ne-eqb, eqb-false}
 use lib.Dec.{eqb}
 use lib.ListN.{length, getD, set}
 use lib.Seq.{getD-set-same, getD-set-other}
-use Rattle.order.specs.Order.{State, at, named, begun, ended, passed, opened, turned, closed, next}
+use Rattle.order.specs.Order.{State, at, is, innermost, onlyIf, named, begun, ended, passed, opened, turned, closed, next}
 use Rattle.order.specs.Stack.{stack, stateOf, Keeps}
 use Rattle.order.specs.declared.Open.{Open}
 
@@ -97,25 +97,20 @@ module _ (o r : Open) where
     pub opened-full : 3 ≤ o .phase → o .phase ≤ 4 → 16 ≤ o .count → Keeps r (at 5 []) → Keeps r (opened f (stateOf o))
     opened-full p q h k = rw (inside-yes (o .phase) p q, length-stack (o .kinds) (o .count), le-ltb (o .count) 16 h) k
 
-    pub turned-out : (o .phase ≡ 4 → ⊥) → Keeps r (at 5 []) → Keeps r (turned f (stateOf o))
-    turned-out p k = rw (ne-eqb (o .phase) 4 p) k
+    -- ELSE, LOOP, FI and UNTIL come where a statement has come, and their own construct is the innermost; s is the state then.
+    module _ (s : State) where
+      abbrev met : State
+      met = onlyIf (is (stateOf o) 4 && eqb (innermost (stack (o .kinds) (o .count))) f) s
 
-    pub turned-none : o .phase ≡ 4 → f < 4 → o .count ≡ 0 → Keeps r (at 5 []) → Keeps r (turned f (stateOf o))
-    unfolding stack
-    turned-none p h q k = rw (p, q, ne-eqb 4 f (λ e. omega arith)) k
+      pub met-out : (o .phase ≡ 4 → ⊥) → Keeps r (at 5 []) → Keeps r met
+      met-out p k = rw (ne-eqb (o .phase) 4 p) k
 
-    pub turned-other : o .phase ≡ 4 → (o .count ≡ 0 → ⊥) → (getD (o .kinds) (o .count - 1) 0 ≡ f → ⊥) → Keeps r (at 5 []) → Keeps r (turned f (stateOf o))
-    turned-other p h q k = rw (p, stack-top (o .kinds) (o .count) (omega arith), ne-eqb (getD (o .kinds) (o .count - 1) 0) f q) k
+      pub met-none : o .phase ≡ 4 → f < 4 → o .count ≡ 0 → Keeps r (at 5 []) → Keeps r met
+      unfolding stack
+      met-none p h q k = rw (p, q, ne-eqb 4 f (λ e. omega arith)) k
 
-    pub closed-out : (o .phase ≡ 4 → ⊥) → Keeps r (at 5 []) → Keeps r (closed f (stateOf o))
-    closed-out p k = rw (ne-eqb (o .phase) 4 p) k
-
-    pub closed-none : o .phase ≡ 4 → f < 4 → o .count ≡ 0 → Keeps r (at 5 []) → Keeps r (closed f (stateOf o))
-    unfolding stack
-    closed-none p h q k = rw (p, q, ne-eqb 4 f (λ e. omega arith)) k
-
-    pub closed-other : o .phase ≡ 4 → (o .count ≡ 0 → ⊥) → (getD (o .kinds) (o .count - 1) 0 ≡ f → ⊥) → Keeps r (at 5 []) → Keeps r (closed f (stateOf o))
-    closed-other p h q k = rw (p, stack-top (o .kinds) (o .count) (omega arith), ne-eqb (getD (o .kinds) (o .count - 1) 0) f q) k
+      pub met-other : o .phase ≡ 4 → (o .count ≡ 0 → ⊥) → (getD (o .kinds) (o .count - 1) 0 ≡ f → ⊥) → Keeps r (at 5 []) → Keeps r met
+      met-other p h q k = rw (p, stack-top (o .kinds) (o .count) (omega arith), ne-eqb (getD (o .kinds) (o .count - 1) 0) f q) k
 
 module _ (o : Open) where
   pub passed-yes : 3 ≤ o .phase → o .phase ≤ 4 → o .count ≤ 16 → Keeps (kept (o .kinds) (o .count) 4) (passed (stateOf o))
@@ -152,13 +147,10 @@ pub ruleset keeping = (
   opened-high,
   opened-full,
   opened-yes,
-  turned-out,
-  turned-none,
-  turned-other,
+  met-out,
+  met-none,
+  met-other,
   turned-yes,
-  closed-out,
-  closed-none,
-  closed-other,
   closed-yes,
 )
 
