@@ -8,6 +8,7 @@ use lib.Dec.{eqb}
 use lib.ListN.{getD}
 use borrow.Author.Tests.{lt-ltb, le-ltb, eq-eqb, ne-eqb}
 use Rattle.codes.specs.Codes.{word16}
+use Rattle.moves.proofs.Follow.{clash}
 use Rattle.place.specs.declared.Place.{Place as Held}
 use Rattle.place.specs.Slots.{Plain, Decides, plainOf}
 use Rattle.place.proofs.Held.{plain-of, decided}
@@ -32,9 +33,6 @@ entry-past tab start x w h e = slot-past 9344 tab (start + w) h ∙ ap (entryAt 
 pub by : {X : Type 0} (b : Bool) → (b ≡ true → X) → (b ≡ false → X) → X
 by true f g = f refl
 by false f g = g refl
-
-pub clash : {X : Type 0} {b : Bool} → b ≡ true → b ≡ false → X
-clash p q = absurd (let z : _≡_ {A = ℕ} 0 1 = cc in let y : ⊥ = omega arith in y)
 
 -- a test's answer, and what it is of
 off : (b x : Bool) → not b ≡ true → b ≡ x → x ≡ false

@@ -22,11 +22,13 @@ use Rattle.moves.proofs.Cuts.{SimpleOk, Wf, Good, in-main, by-call, by-uncall}
 use Rattle.moves.proofs.Rows.{prog}
 use Rattle.moves.proofs.View.{stack}
 use Rattle.moves.proofs.Accepted.{accepted-wf}
+use Rattle.moves.proofs.Follow.{clash}
 use Rattle.table.proofs.Tabled.{Tabled, openOf}
 use Rattle.fits.specs.declared.Chain.{Chain}
 use Rattle.fits.specs.Fits.{entryAt, numberOf, lost, callKind, calleeOf, callOf, outward, ends, chained}
-use Rattle.fits.proofs.Cases.{by, clash, slot-in, construct-yes, construct-no, call-open, call-no-call, call-other, call-many, call-yes, outward-past, outward-construct, outward-call}
-use Rattle.fits.proofs.Nest.{Nest, bare, nested, nest, Lies, in-some, there}
+use Rattle.fits.proofs.Cases.{by, slot-in, construct-yes, construct-no, call-open, call-no-call, call-other, call-many, call-yes, outward-past, outward-construct, outward-call}
+use Rattle.fits.proofs.Nest.{Nest, bare, nested, nest, Lies, in-some}
+use Rattle.moves.proofs.Whole.{there}
 use Rattle.fits.proofs.Entries.{Calls, Calling, small, open-is, open-before, owner-is, callee-is, call-is, call-there}
 
 -- One stands inside this construct, in procedure q, n calls passed.

@@ -1,16 +1,16 @@
 -- What the entries of the table that `fits` reads say of an accepted file's program. Assumes nothing.
 --     offset-is, kind-is, open-is, open-before, owner-is, down-is, up-is    the sections
 --     callee-is, call-there                                                 the record is a CALL or UNCALL of this procedure
-use Prim.Native.Nat.{ℕ, zero, suc, _+_, _^_, _≤_, _<_, pred}
+use Prim.Native.Nat.{ℕ, suc, _+_, _^_, _≤_, _<_, pred}
 use mathlib.Core.Path.{_≡_, refl, ap, sym, _∙_, subst}
 use mathlib.Core.Bool.{true}
-use mathlib.Core.List.{List, [], _∷_, _++_}
+use mathlib.Core.List.{List, _++_}
 use mathlib.Core.Logic.{_⊎_, inl, inr}
 use lib.ListN.{length, getD, drop}
 use native.Mathlib.Omega.{arith}
 use Rattle.codes.specs.Codes.{word16, bytes16}
 use Rattle.codes.proofs.Rows.{short-back}
-use Rattle.records.specs.Records.{Record, names, call, uncall, skip, kind, body, encodeRecord, bytesOf, Formed, FineFrom, isBegin}
+use Rattle.records.specs.Records.{Record, call, uncall, kind, body, encodeRecord, bytesOf, Formed}
 use Rattle.order.specs.Trees.{Tree, recordsOf}
 use Rattle.program.specs.Says.{Accepts}
 use Rattle.records.specs.Walk.{offsets}
@@ -21,24 +21,15 @@ use Rattle.moves.specs.Labels.{at}
 use Rattle.moves.specs.Places.{down, up}
 use Rattle.moves.proofs.Linked.{Rec, nameL, beginL, endL, setL, skipL, ifL, elseL, fiL, fromL, loopL, untilL, callL, uncallL, Prog, forget}
 use Rattle.moves.proofs.Rows.{prog}
-use Rattle.moves.proofs.Links.{at-is}
+use Rattle.moves.proofs.Whole.{there}
+use Rattle.moves.proofs.Links.{at-is, at-skip}
 use Rattle.moves.proofs.Gaps.{tip}
 use Rattle.moves.proofs.Accepted.{accepted-wf}
+use Rattle.moves.proofs.Follow.{clash}
+use Rattle.table.proofs.Facts.{facts}
 use Rattle.table.proofs.Tabled.{Tabled, openOf}
 use Rattle.fits.specs.Fits.{entryAt, callKind, calleeOf}
-use Rattle.fits.proofs.Cases.{clash, slot-in}
-use Rattle.fits.proofs.Nest.{there}
-
--- ---- at most 1,024 records
-in-sizes : (k b : ℕ) (rs : List Record) → FineFrom k b rs → k ≤ 1024 → k + length rs ≤ 1024
-unfolding FineFrom
-in-sizes k b [] f h = omega arith
-in-sizes k b (r ∷ rs) f h = omega (arith, in-sizes (suc k) (b + isBegin (kind r)) rs (f .1 .1) (f .1 .0 .records))
-
-same-getD : {A : Type 0} (l : List A) (d e : A) (n : ℕ) → n < length l → getD l n d ≡ getD l n e
-same-getD [] d e n h = absurd (let z : ⊥ = omega arith in z)
-same-getD (x ∷ l) d e zero h = refl
-same-getD (x ∷ l) d e (suc n) h = same-getD l d e n (omega arith)
+use Rattle.fits.proofs.Cases.{slot-in}
 
 -- ---- a record that calls
 abbrev pub Calls : Prog → ℕ → ℕ → Type 0
@@ -69,7 +60,7 @@ module _ (f : List ℕ) (t : Tree) (tab : List ℕ) (a : Accepts f t) (T : Table
   P = prog t
 
   pub small : length (recordsOf t) ≤ 1024
-  small = omega (arith, in-sizes 0 0 (recordsOf t) (a .rows .fine) (omega arith))
+  small = facts f t a .few
 
   entry-at : (start x i : ℕ) → start + x < 9344 → start + x ≡ i → entryAt tab start x ≡ getD tab i 0
   entry-at start x i h e = sym (slot-in 9344 tab (start + x) h) ∙ ap (λ (j : ℕ). getD tab j 0) e
@@ -101,21 +92,18 @@ module _ (f : List ℕ) (t : Tree) (tab : List ℕ) (a : Accepts f t) (T : Table
   owner-is q x lo hi = entry-at 8192 x (8192 + x) (omega (arith, small, there t (accepted-wf a) q x lo hi)) refl ∙ T .owners q x lo hi
 
   module _ (c : ℕ) (h : c < length (recordsOf t)) where
-    here : getD (recordsOf t) c skip ≡ at t c
-    here = same-getD (recordsOf t) skip (names 0 []) c h
-
     reads : (q : ℕ) (r : Record) → at t c ≡ r → body r ≡ bytes16 q → q < 2 ^ 16 → calleeOf f tab c ≡ q
     unfolding encodeRecord
     reads q r e b k =
         let o = getD (offsets f) c 0 in
         let D : drop o f ≡ encodeRecord r ++ bytesOf (drop (suc c) (recordsOf t)) =
-        record-at f (recordsOf t) (omega (arith, a .rows .short)) (a .rows .bytes) c h ∙ ap (λ (r : Record). encodeRecord r ++ bytesOf (drop (suc c) (recordsOf t))) (here ∙ e) in
+        record-at f (recordsOf t) (omega (arith, a .rows .short)) (a .rows .bytes) c h ∙ ap (λ (r : Record). encodeRecord r ++ bytesOf (drop (suc c) (recordsOf t))) (at-skip t c h ∙ e) in
         let E : drop (o + 4) f ≡ bytes16 q ++ bytesOf (drop (suc c) (recordsOf t)) =
         front-rest f o 4 _ D ∙ ap (λ (x : List ℕ). x ++ bytesOf (drop (suc c) (recordsOf t))) b in
         ap (λ (i : ℕ). word16 f (i + 4)) (offset-is c h) ∙ short-back f (o + 4) _ q k E
 
     formed : (r : Record) → at t c ≡ r → Formed r
-    formed r e = subst Formed (here ∙ e) (formed-at (recordsOf t) 0 0 c (a .rows .fine) h)
+    formed r e = subst Formed (at-skip t c h ∙ e) (formed-at (recordsOf t) 0 0 c (a .rows .fine) h)
 
     pub callee-is : (q : ℕ) → Calls P c q → calleeOf f tab c ≡ q
     unfolding body Formed

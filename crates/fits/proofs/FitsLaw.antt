@@ -27,10 +27,12 @@ use Rattle.moves.proofs.Gaps.{tip}
 use Rattle.moves.proofs.View.{stack, view}
 use Rattle.moves.proofs.Match.{cut-fits, placed-fits, fits-placed}
 use Rattle.moves.proofs.Accepted.{accepted-wf}
+use Rattle.moves.proofs.Follow.{clash}
 use Rattle.table.proofs.Tabled.{Tabled, openOf, is-if, is-until}
 use Rattle.fits.specs.Fits.{entryAt, chained, left, gapIs, startOf, gapFits, edgeFits, fitsIn}
-use Rattle.fits.proofs.Cases.{by, clash}
-use Rattle.fits.proofs.Nest.{in-some, there}
+use Rattle.fits.proofs.Cases.{by}
+use Rattle.moves.proofs.Whole.{there}
+use Rattle.fits.proofs.Nest.{in-some}
 use Rattle.fits.proofs.Few.{frames-few}
 use Rattle.fits.proofs.Entries.{kind-is, middle-at, open-is, owner-is, down-is, up-is}
 use Rattle.fits.proofs.Chains.{stand, chain, chained-is, Found, sound, complete}

@@ -5,17 +5,15 @@
 use Prim.Native.Nat.{ℕ, zero, suc, _+_, _≤_, _<_, pred}
 use mathlib.Core.Path.{_≡_, refl, ap, sym, _∙_, subst}
 use mathlib.Core.List.{List, [], _∷_}
-use lib.ListN.{length, List·getD-eq-default}
+use lib.ListN.{List·getD-eq-default}
 use native.Mathlib.Omega.{arith}
-use Rattle.records.specs.Records.{names, kind}
-use Rattle.order.specs.Trees.{Block, Tree, procedures, recordsOf}
+use Rattle.order.specs.Trees.{Block, Tree, procedures}
 use Rattle.moves.specs.Labels.{at}
 use Rattle.moves.proofs.Sizes.{sizeB}
 use Rattle.moves.specs.Edges.{Frame, inThen, inElse, inDo, inLoop, frameKind, frameLabel}
-use Rattle.moves.proofs.Linked.{Con, Rec, nameL, beginL, endL, setL, skipL, ifL, elseL, fiL, fromL, loopL, untilL, callL, uncallL, Prog, forget}
+use Rattle.moves.proofs.Linked.{Con, Rec, nameL, beginL, endL, setL, skipL, ifL, elseL, fiL, fromL, loopL, untilL, callL, uncallL, Prog}
 use Rattle.moves.proofs.Cuts.{Span, SimpleOk, ProcOk, Local, Wf}
 use Rattle.moves.proofs.Rows.{beginFrom, endFrom, noRow, rowsOf, prog}
-use Rattle.moves.proofs.Links.{at-is}
 use Rattle.moves.proofs.Locals.{either}
 use Rattle.moves.proofs.Whole.{pastOf, lengthP, Suffix, rest, proc, suffix}
 
@@ -93,24 +91,3 @@ in-some τ (suc x) not =
     either (suc x) (pastOf (procedures τ) 1)
     (λ h. lies-from τ (prog τ) (procedures τ) 1 0 (suffix τ) (suc x) (omega arith) h)
     (λ h. absurd (not 0 [] (ap (λ k. k .rec) (List·getD-eq-default (rowsOf τ) noRow {n = suc x} (omega (arith, lengthP (procedures τ) 0 1))))))
-
-no-names : (τ : Tree) (P : Prog) (q x : ℕ) (ρ : Rec) → Local τ P ρ x → P .first q ≤ x → x ≤ P .last q → forget ρ ≡ names 0 [] → ⊥
-unfolding kind
-no-names τ P q x (nameL v ls) l lo hi e = l q lo hi
-no-names τ P q x (beginL p) l lo hi e = let k = ap kind e in omega arith
-no-names τ P q x (endL p) l lo hi e = let k = ap kind e in omega arith
-no-names τ P q x (setL o t ε) l lo hi e = let k = ap kind e in omega arith
-no-names τ P q x skipL l lo hi e = let k = ap kind e in omega arith
-no-names τ P q x (ifL c) l lo hi e = let k = ap kind e in omega arith
-no-names τ P q x (elseL c) l lo hi e = let k = ap kind e in omega arith
-no-names τ P q x (fiL c) l lo hi e = let k = ap kind e in omega arith
-no-names τ P q x (fromL c) l lo hi e = let k = ap kind e in omega arith
-no-names τ P q x (loopL c) l lo hi e = let k = ap kind e in omega arith
-no-names τ P q x (untilL c) l lo hi e = let k = ap kind e in omega arith
-no-names τ P q x (callL p) l lo hi e = let k = ap kind e in omega arith
-no-names τ P q x (uncallL p) l lo hi e = let k = ap kind e in omega arith
-
-pub there : (τ : Tree) → Wf τ (prog τ) → (q x : ℕ) → prog τ .first q ≤ x → x ≤ prog τ .last q → x < length (recordsOf τ)
-there τ w q x lo hi =
-    either x (length (recordsOf τ)) (λ h. h)
-    (λ h. absurd (no-names τ (prog τ) q x (prog τ .at x) (w .here x) lo hi (sym (at-is τ x) ∙ List·getD-eq-default (recordsOf τ) (names 0 []) {n = x} h)))

@@ -10,8 +10,8 @@ use native.Mathlib.Numerals.{add-one}
 use borrow.Author.Tests.{ne-eqb, lt-ltb, ltb-true, ltb-false, le-leb, lt-leb}
 use Rattle.place.specs.Places.{Dir, down, up, opp, Frame, called}
 use Rattle.place.specs.Slots.{dirNumber}
-use Rattle.records.specs.Records.{Record, names, begin, end, assign, if, else, fi, from, loop, until, call, uncall, skip, kind, begins, isBegin, InSize, FineFrom}
-use Rattle.order.specs.Trees.{Block, Tree, procedures, recordsP, recordsOf}
+use Rattle.records.specs.Records.{Record, call, uncall, kind}
+use Rattle.order.specs.Trees.{Tree, procedures, recordsOf}
 use Rattle.program.specs.Says.{Accepts, thereIn}
 use Rattle.moves.specs.Labels.{at}
 use Rattle.moves.specs.Stores.{tooDeep, Answer, ok, no, Store}
@@ -19,49 +19,20 @@ use Rattle.moves.proofs.Linked.{Rec, callL, uncallL, Prog, forget, side, gateL}
 use Rattle.moves.proofs.Cuts.{Cut, met, gap, leave, return′, through, SimpleOk, ProcOk, Good, in-main, by-call, by-uncall, Sits}
 use Rattle.moves.proofs.Loop.{fit, gate-pos}
 use Rattle.moves.proofs.Rows.{prog}
-use Rattle.moves.proofs.Links.{at-is}
-use Rattle.moves.proofs.View.{stack, side-call, side-uncall}
-use Rattle.moves.proofs.Follow.{and-true}
+use Rattle.moves.proofs.Links.{at-is, at-skip}
+use Rattle.moves.proofs.Accepted.{accepted-wf}
+use Rattle.moves.proofs.View.{stack, side-call, side-uncall, encl-met, encl-gap}
+use Rattle.moves.proofs.View as seen
+use Rattle.expr.proofs.Layer.{and-true}
+use Rattle.table.proofs.Facts.{facts}
 use Rattle.table.proofs.Tabled.{Tabled}
 use Rattle.decide.specs.Decide.{Seen, Moved, lookIn, moreOf, otherOf, alongOf, gateOf, resumedOf, refusedOf, enteredTo, enteredOf, returnedOf, moving, ruled, ruleOf}
 use Rattle.machine.proofs.Room.{encl-room, stack-room, room}
-use Rattle.machine.proofs.Labels.{getD-any, inside}
+use Rattle.machine.proofs.Labels.{inside}
 use Rattle.machine.proofs.Landing.{topLabel, spotAt, Fate, Acts, lands, acts-push, acts-pop}
 use Rattle.machine.proofs.Sets.{Agrees}
 use Rattle.machine.proofs.Decided.{w, kind-at}
 use Rattle.machine.proofs.Fates as fates
-
--- ---- at most 64 procedures
-begins-append : (xs ys : List Record) → begins (xs ++ ys) ≡ begins xs + begins ys
-unfolding begins
-begins-append [] ys = omega arith
-begins-append (x ∷ xs) ys = omega (arith, begins-append xs ys)
-
-procs-begin : (bs : List Block) → length bs ≤ begins (recordsP bs)
-unfolding begins recordsP kind
-procs-begin [] = omega arith
-procs-begin (b ∷ bs) = simp begins-append (omega (arith, procs-begin bs))
-
-one-more : (k b : ℕ) (r : Record) → b ≤ 64 → InSize k b r → b + isBegin (kind r) ≤ 64
-unfolding kind
-one-more k b (names v ls) h s = omega arith
-one-more k b begin h s = omega (arith, s .procedures refl)
-one-more k b end h s = omega arith
-one-more k b (assign o t e) h s = omega arith
-one-more k b (if e) h s = omega arith
-one-more k b else h s = omega arith
-one-more k b (fi e) h s = omega arith
-one-more k b (from e) h s = omega arith
-one-more k b loop h s = omega arith
-one-more k b (until e) h s = omega arith
-one-more k b (call q) h s = omega arith
-one-more k b (uncall q) h s = omega arith
-one-more k b skip h s = omega arith
-
-few-begins : (k b : ℕ) (rs : List Record) → b ≤ 64 → FineFrom k b rs → b + begins rs ≤ 64
-unfolding FineFrom begins
-few-begins k b [] h f = omega arith
-few-begins k b (r ∷ rs) h f = omega (arith, few-begins (suc k) (b + isBegin (kind r)) rs (one-more k b r h (f .1 .0)) (f .1 .1))
 
 pub other-is : (d : Dir) → otherOf (dirNumber d) ≡ dirNumber (opp d)
 other-is down = refl
@@ -70,8 +41,7 @@ other-is up = refl
 -- ---- the gates of a procedure
 module _ {f : List ℕ} {t : Tree} (A : Accepts f t) {tab : List ℕ} (T : Tabled t f tab) where
   few-procs : length (procedures t) ≤ 64
-  unfolding recordsOf begins kind
-  few-procs = omega (arith, procs-begin (procedures t), few-begins 0 0 (recordsOf t) (omega arith) (A .rows .fine))
+  few-procs = facts f t A .few-procs
 
   pub gate-is : (q : ℕ) (d : Dir) → q < length (procedures t) → gateOf tab q (dirNumber d) ≡ gateL (prog t) q d
   unfolding lookIn
@@ -79,12 +49,10 @@ module _ {f : List ℕ} {t : Tree} (A : Accepts f t) {tab : List ℕ} (T : Table
   gate-is q up h = rw (lt-ltb (9280 + q) 9344 (omega (arith, few-procs))) (T .lasts q h)
 
   pub gate-side : (q : ℕ) (d : Dir) → ProcOk (prog t) q → side (prog t .at (gateL (prog t) q d)) (gateL (prog t) q d) (opp d) ≡ gateL (prog t) q d
-  gate-side q down k = rw (k .at-first)
-  gate-side q up k = rw (k .at-last)
+  gate-side = seen.gate-side t (accepted-wf A)
 
   pub gate-encl : (q : ℕ) (d : Dir) → ProcOk (prog t) q → prog t .encl (gap (gateL (prog t) q d) d) ≡ []
-  gate-encl q down k = k .en-first
-  gate-encl q up k = k .en-last
+  gate-encl = seen.gate-encl t (accepted-wf A)
 
 module _ {f : List ℕ} {t : Tree} (A : Accepts f t) {tab : List ℕ} (T : Tabled t f tab) {bytes arr : List ℕ} (G : Agrees t f bytes arr) where
   abbrev P : Prog
@@ -96,17 +64,9 @@ module _ {f : List ℕ} {t : Tree} (A : Accepts f t) {tab : List ℕ} (T : Table
   abbrev Does : (g : ℕ) (d : Dir) (cs : List ℕ) (b : ℕ) → Store → Answer (Cut × Store) → Type 0
   Does g d cs b σ a = Fate P (frames g cs) σ (ruleOf bytes tab arr (spotAt (frames g cs) d cs b) σ) a
 
-  encl-met : (g : ℕ) (d : Dir) → SimpleOk P (met g d) → P .encl (met g d) ≡ P .encl g
-  encl-met g down k = k .en
-  encl-met g up k = refl
-
-  encl-gap : (c : ℕ) (d : Dir) → SimpleOk P c → P .encl c ≡ P .encl (gap c d)
-  encl-gap c down k = refl
-  encl-gap c up k = k .en
-
   -- a call's number is a procedure's
   numbered : (x : ℕ) → x < length (recordsOf t) → (r : Record) → at t x ≡ r → thereIn t r ≡ true
-  numbered x h r e = subst (λ r. thereIn t r ≡ true) (getD-any (recordsOf t) x skip (names 0 []) h ∙ e) (A .numbers x h)
+  numbered x h r e = subst (λ r. thereIn t r ≡ true) (at-skip t x h ∙ e) (A .numbers x h)
 
   pub call-there : (x q : ℕ) → x < length (recordsOf t) → P .at x ≡ callL q → q < length (procedures t)
   call-there x q h e = ltb-true q _ (and-true (ltb 0 q) (ltb q (length (procedures t))) (numbered x h (call q) (at-is t x ∙ ap forget e)) .1)
@@ -136,7 +96,7 @@ module _ {f : List ℕ} {t : Tree} (A : Accepts f t) {tab : List ℕ} (T : Table
         go true e =
             let h : length cs < 64 = ltb-true _ _ e in
             let F′ = good h in
-            let new : called (met g d) ∷ frames g cs ≡ P .encl (gap (gateL P q d′) d′) ++ stack P (met g d ∷ cs) = rw (gate-encl A T q d′ k, encl-met g d o) in
+            let new : called (met g d) ∷ frames g cs ≡ P .encl (gap (gateL P q d′) d′) ++ stack P (met g d ∷ cs) = rw (gate-encl A T q d′ k, encl-met t (accepted-wf A) g d o) in
             let r : length (frames g cs) < 1104 = omega (arith, room A (leave (gateL P q d′) d′ (met g d ∷ cs)) F′, ap length new) in
             rw (lt-leb 64 (length cs) h) (
               refl,
@@ -160,7 +120,7 @@ module _ {f : List ℕ} {t : Tree} (A : Accepts f t) {tab : List ℕ} (T : Table
     back q c cs d′ ρ ac o lo hi good n sc rs =
         let F′ = fit t P q cs good (omega arith) c d′ lo hi in
         let old : frames g (c ∷ cs) ≡ called c ∷ (P .encl c ++ stack P cs) = rw en in
-        let new : P .encl c ++ stack P cs ≡ P .encl (gap c d′) ++ stack P cs = ap (λ H. H ++ stack P cs) (encl-gap c d′ o) in
+        let new : P .encl c ++ stack P cs ≡ P .encl (gap c d′) ++ stack P cs = ap (λ H. H ++ stack P cs) (encl-gap t (accepted-wf A) c d′ o) in
         let r : length (P .encl c ++ stack P cs) < 1104 = omega (arith, deeper, ap length new) in
         let z : eqb (suc (length cs)) 0 ≡ false = ne-eqb (suc (length cs)) 0 (λ e. omega arith) in
         let tl : topLabel (frames g (c ∷ cs)) ≡ c = ap topLabel old in

@@ -1,15 +1,13 @@
 -- What the table and the bytes of an accepted file say of a label inside a procedure.
-use Prim.Native.Nat.{ℕ, zero, suc, _+_, _^_, _≤_, _<_, pred}
-use mathlib.Core.Path.{_≡_, refl, sym, ap, _∙_, subst}
-use mathlib.Core.Bool.{Bool, true, false}
-use mathlib.Core.List.{List, [], _∷_, _++_, append-assoc}
-use lib.ListN.{length, getD, drop, length-append, length-drop, List·getD-eq-default}
+use Prim.Native.Nat.{ℕ, suc, _+_, _^_, _≤_, _<_, pred}
+use mathlib.Core.Path.{_≡_, ap, _∙_, subst}
+use mathlib.Core.List.{List, _++_, append-assoc}
+use lib.ListN.{length, getD, drop, length-append, length-drop}
 use lib.Seq.{drop-append-le}
-use lib.Dec.{ltb}
 use native.Mathlib.Omega.{arith}
-use borrow.Author.Tests.{lt-ltb, ltb-false, ltb-true}
+use borrow.Author.Tests.{lt-ltb}
 use Rattle.place.specs.Slots.{dirNumber}
-use Rattle.records.specs.Records.{Record, names, skip, kind, body, encodeRecord, bytesOf, Formed, FineFrom}
+use Rattle.records.specs.Records.{Record, skip, kind, body, encodeRecord, bytesOf}
 use Rattle.order.specs.Trees.{Tree, recordsOf}
 use Rattle.program.specs.Says.{Accepts}
 use Rattle.records.specs.Faults.{word}
@@ -18,49 +16,20 @@ use Rattle.records.specs.Walk.{offsets}
 use Rattle.records.proofs.Offsets.{record-at, word-is, short-is, size-of}
 use Rattle.records.proofs.Bytes.{front-rest}
 use Rattle.records.proofs.Complete.{complete-body}
+use Rattle.program.proofs.Passes.{formed-at}
 use Rattle.moves.specs.Labels.{at}
 use Rattle.moves.specs.Places.{Dir, down, up}
-use Rattle.moves.proofs.Linked.{Rec, nameL, beginL, endL, setL, skipL, ifL, elseL, fiL, fromL, loopL, untilL, callL, uncallL, Prog, forget}
-use Rattle.moves.proofs.Cuts.{gap, leave, Local, Sits}
+use Rattle.moves.proofs.Linked.{Prog}
+use Rattle.moves.proofs.Cuts.{gap, leave, Sits}
 use Rattle.moves.proofs.Rows.{prog}
-use Rattle.moves.proofs.Links.{at-is}
+use Rattle.moves.proofs.Whole.{there}
+use Rattle.moves.proofs.Links.{at-skip}
 use Rattle.moves.proofs.Gaps.{tip}
 use Rattle.moves.proofs.Accepted.{accepted-wf}
+use Rattle.table.proofs.Facts.{facts}
 use Rattle.table.proofs.Tabled.{Tabled}
 use Rattle.decide.specs.Decide.{lookIn, alongOf}
 use Rattle.machine.proofs.Sets.{Stands}
-
--- ---- a record of an accepted file
-pub getD-any : (rs : List Record) (x : ℕ) (a b : Record) → x < length rs → getD rs x a ≡ getD rs x b
-getD-any [] x a b h = absurd (omega arith)
-getD-any (r ∷ rs) zero a b h = refl
-getD-any (r ∷ rs) (suc x) a b h = getD-any rs x a b (omega arith)
-
-formed-at : (k b : ℕ) (rs : List Record) → FineFrom k b rs → (x : ℕ) → x < length rs → Formed (getD rs x skip)
-unfolding FineFrom
-formed-at k b [] f x h = absurd (omega arith)
-formed-at k b (r ∷ rs) f zero h = f .0
-formed-at k b (r ∷ rs) f (suc x) h = formed-at _ _ rs (f .1 .1) x (omega arith)
-
-few : (k b : ℕ) (rs : List Record) → k ≤ 1024 → FineFrom k b rs → k + length rs ≤ 1024
-unfolding FineFrom
-few k b [] h f = omega arith
-few k b (r ∷ rs) h f = omega (arith, few (suc k) _ rs (f .1 .0 .records) (f .1 .1))
-
-not-names : (ρ : Rec) (v : ℕ) (ls : List ℕ) → forget ρ ≡ names v ls → (x : ℕ) (τ : Tree) (P : Prog) → Local τ P ρ x → (q : ℕ) → P .first q ≤ x → x ≤ P .last q → ⊥
-not-names (nameL a b) v ls e x τ P l q lo hi = l q lo hi
-not-names (beginL a) v ls e x τ P l q lo hi = let z : _≡_ {A = ℕ} 0 1 = cc in omega arith
-not-names (endL a) v ls e x τ P l q lo hi = let z : _≡_ {A = ℕ} 0 1 = cc in omega arith
-not-names (setL a b c) v ls e x τ P l q lo hi = let z : _≡_ {A = ℕ} 0 1 = cc in omega arith
-not-names skipL v ls e x τ P l q lo hi = let z : _≡_ {A = ℕ} 0 1 = cc in omega arith
-not-names (ifL a) v ls e x τ P l q lo hi = let z : _≡_ {A = ℕ} 0 1 = cc in omega arith
-not-names (elseL a) v ls e x τ P l q lo hi = let z : _≡_ {A = ℕ} 0 1 = cc in omega arith
-not-names (fiL a) v ls e x τ P l q lo hi = let z : _≡_ {A = ℕ} 0 1 = cc in omega arith
-not-names (fromL a) v ls e x τ P l q lo hi = let z : _≡_ {A = ℕ} 0 1 = cc in omega arith
-not-names (loopL a) v ls e x τ P l q lo hi = let z : _≡_ {A = ℕ} 0 1 = cc in omega arith
-not-names (untilL a) v ls e x τ P l q lo hi = let z : _≡_ {A = ℕ} 0 1 = cc in omega arith
-not-names (callL a) v ls e x τ P l q lo hi = let z : _≡_ {A = ℕ} 0 1 = cc in omega arith
-not-names (uncallL a) v ls e x τ P l q lo hi = let z : _≡_ {A = ℕ} 0 1 = cc in omega arith
 
 module _ {f : List ℕ} {t : Tree} (A : Accepts f t) where
   abbrev P : Prog
@@ -70,15 +39,11 @@ module _ {f : List ℕ} {t : Tree} (A : Accepts f t) where
   count = length (recordsOf t)
 
   pub small : count ≤ 1024
-  small = let h = few 0 0 (recordsOf t) (omega arith) (A .rows .fine) in omega arith
+  small = facts f t A .few
 
   -- a label inside a procedure is a record's
   pub inside : (q x : ℕ) → P .first q ≤ x → x ≤ P .last q → x < count
-  inside q x lo hi = go (ltb x count) refl
-    where
-      go : (b : Bool) → ltb x count ≡ b → x < count
-      go true e = ltb-true x count e
-      go false e = absurd (not-names (P .at x) 0 [] (sym (at-is t x) ∙ List·getD-eq-default (recordsOf t) (names 0 []) (ltb-false x count e)) x t P (accepted-wf A .here x) q lo hi)
+  inside = there t (accepted-wf A)
 
   -- bytes that begin with the file read like it at its records, whatever stands behind
   module _ (zs bytes : List ℕ) (begun : bytes ≡ f ++ zs) (short : length bytes < 2 ^ 16) where
@@ -96,9 +61,9 @@ module _ {f : List ℕ} {t : Tree} (A : Accepts f t) where
         let y = bytesOf (drop (suc x) (recordsOf t)) in
         let R = record-at f (recordsOf t) s (A .rows .bytes) x h in
         let D = behind o (encodeRecord r) y (omega arith) R in
-        let e : r ≡ at t x = getD-any (recordsOf t) x skip (names 0 []) h in
+        let e : r ≡ at t x = at-skip t x h in
         let W = word-is bytes o r _ (short-is bytes short o r _ D) D ∙ size-of r in
-        let c = complete-body bytes o _ r (formed-at 0 0 (recordsOf t) (A .rows .fine) x h) (body-at o r _ D) W in
+        let c = complete-body bytes o _ r (formed-at (recordsOf t) 0 0 x (A .rows .fine) h) (body-at o r _ D) W in
         let n : o + length (encodeRecord r) ≤ length f = omega (arith, length-drop o f, length-append (encodeRecord r) y, ap length R) in
         subst (λ r. Stands (kind r) bytes o r) e
         (record { is = c .1; formed = c .0; low = omega (arith, A .rows .short); before = omega (arith, A .rows .short, size-of r) })

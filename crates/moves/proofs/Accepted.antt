@@ -16,7 +16,7 @@ use Rattle.moves.proofs.Cuts.{Undoes, Wf}
 use Rattle.moves.proofs.Rows.{prog}
 use Rattle.moves.proofs.Locals.{FineS, FineB}
 use Rattle.moves.proofs.Whole.{FineP, fine-wf}
-use Rattle.moves.proofs.Follow.{and-true}
+use Rattle.expr.proofs.Layer.{and-true}
 use Rattle.moves.proofs.Assign.{set-undoes}
 
 abbrev Good : Tree → Record → Type 0

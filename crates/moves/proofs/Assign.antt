@@ -20,7 +20,7 @@ use Rattle.records.specs.Records.{Target, cell, entry, thereTarget, ownTarget, 
 use Rattle.order.specs.Trees.{Tree, cells}
 use Rattle.moves.specs.Places.{Dir, down, up, opp}
 use Rattle.moves.specs.Stores.{Answer, ok, no, bind, Store, Sized, startsFrom, layout, reasonOf, answered, evaluated, applied, operator, entryAt, cellOf, assigned, badIndex}
-use Rattle.moves.proofs.Follow.{and-true}
+use Rattle.expr.proofs.Layer.{and-true}
 use Rattle.moves.proofs.Cuts.{Undoes}
 use Rattle.moves.proofs.Why.{ok-no}
 

@@ -18,12 +18,12 @@ use Rattle.moves.specs.Labels.{at}
 use Rattle.moves.specs.Edges.{Frame, inDo}
 use Rattle.moves.specs.Places.{Dir, down, up, going, Place, head, calls}
 use Rattle.moves.specs.Stores.{Reason, Answer, ok, no, bind, Store, layout, answered, evaluated, holds, applied, operator, cellOf, assigned}
-use Rattle.moves.specs.Step.{after, again, must, step}
+use Rattle.moves.specs.Step.{after, again, must, executes, step}
 use Rattle.moves.specs.Step as does
 use Rattle.moves.specs.Runs.{Ran, onward, runBy, run}
 use Rattle.moves.proofs.Runs.{counted}
-use Rattle.moves.proofs.Acts.{Act, assigns, moves, chooses, closes, opens, tests, enters, returns, nothing, act, wanted, perform, step-is}
-use Rattle.moves.proofs.Follow.{and-true}
+use Rattle.moves.proofs.Acts.{Act, assigns, moves, chooses, closes, opens, tests, enters, enters-back, returns, nothing, act, wanted, perform, step-is}
+use Rattle.expr.proofs.Layer.{and-true}
 use Rattle.moves.proofs.Assign.{cell-there}
 
 -- Nothing but zeros.
@@ -49,11 +49,12 @@ numbers-at t (r ∷ rs) a (suc x) = numbers-at t rs (λ j h. a (suc j) (omega ar
 abbrev Aims : Tree → Act → Type 0
 Aims t (assigns o x e) = thereTarget (t .scalars) (length (t .lengths)) x ≡ true
 Aims t moves = Unit {0}
-Aims t (chooses e h) = Unit {0}
+Aims t (chooses e) = Unit {0}
 Aims t (closes e) = Unit {0}
-Aims t (opens e h) = Unit {0}
+Aims t (opens e) = Unit {0}
 Aims t (tests e) = Unit {0}
-Aims t (enters q d) = Unit {0}
+Aims t (enters q) = Unit {0}
+Aims t (enters-back q) = Unit {0}
 Aims t returns = Unit {0}
 Aims t nothing = Unit {0}
 
@@ -61,21 +62,21 @@ aims-going : (t : Tree) (d : Dir) (x y : Act) → Aims t x → Aims t y → Aims
 aims-going t down x y h k = h
 aims-going t up x y h k = k
 
-aims-at : (t : Tree) (r : Record) (h : ℕ) (d : Dir) → thereIn t r ≡ true → Aims t (act r h d)
+aims-at : (t : Tree) (r : Record) (d : Dir) → thereIn t r ≡ true → Aims t (act r d)
 unfolding act
-aims-at t (names v ls) h d q = tt
-aims-at t begin h d q = aims-going t d nothing returns tt tt
-aims-at t end h d q = aims-going t d returns nothing tt tt
-aims-at t (assign o x e) h d q = and-true (thereTarget (t .scalars) (length (t .lengths)) x) (known (t .scalars) (length (t .lengths)) e) q .0
-aims-at t (if e) h d q = aims-going t d (chooses e h) (closes e) tt tt
-aims-at t else h d q = tt
-aims-at t (fi e) h d q = aims-going t d (closes e) (chooses e h) tt tt
-aims-at t (from e) h d q = aims-going t d (opens e h) (tests e) tt tt
-aims-at t loop h d q = tt
-aims-at t (until e) h d q = aims-going t d (tests e) (opens e h) tt tt
-aims-at t (call p) h d q = tt
-aims-at t (uncall p) h d q = tt
-aims-at t skip h d q = tt
+aims-at t (names v ls) d q = tt
+aims-at t begin d q = aims-going t d nothing returns tt tt
+aims-at t end d q = aims-going t d returns nothing tt tt
+aims-at t (assign o x e) d q = and-true (thereTarget (t .scalars) (length (t .lengths)) x) (known (t .scalars) (length (t .lengths)) e) q .0
+aims-at t (if e) d q = aims-going t d (chooses e) (closes e) tt tt
+aims-at t else d q = tt
+aims-at t (fi e) d q = aims-going t d (closes e) (chooses e) tt tt
+aims-at t (from e) d q = aims-going t d (opens e) (tests e) tt tt
+aims-at t loop d q = tt
+aims-at t (until e) d q = aims-going t d (tests e) (opens e) tt tt
+aims-at t (call p) d q = tt
+aims-at t (uncall p) d q = tt
+aims-at t skip d q = tt
 
 module _ (t : Tree) (zs : Store) (zeros : Zeros zs) where
   -- the second answer is the first, with the zeros behind its store
@@ -143,24 +144,25 @@ module _ (t : Tree) (zs : Store) (zeros : Zeros zs) where
   return-wide p (f ∷ F) σ n = came refl n
 
   act-wide : (a : Act) → Aims t a → (p : Place) (σ : Store) → length σ ≡ cells t → Wide (perform t a p σ) (perform t a p (σ ++ zs))
-  unfolding perform
+  unfolding perform executes
   act-wide (assigns o x e) h p σ n = set-wide o x e (p .d) (after t (p .b) (p .d) (p .frames)) σ h n
   act-wide moves h p σ n = came refl n
-  act-wide (chooses e l) h p σ n = tested e σ _ _ (λ v. came refl n)
+  act-wide (chooses e) h p σ n = tested e σ _ _ (λ v. came refl n)
   act-wide (closes e) h p σ n = tested e σ _ _ (λ v. must-wide (Bool·beq v (wanted (p .frames))) (after t (p .b) (p .d) (tail (p .frames))) σ n)
-  act-wide (opens e l) h p σ n =
+  act-wide (opens e) h p σ n =
+      let l = head t (p .b) (p .d) in
       tested e σ _ _
       (λ v. either (again l (p .frames)) (must-wide (not v) (after t (p .b) (p .d) (inDo l ∷ tail (p .frames))) σ n) (must-wide v (after t (p .b) (p .d) (inDo l ∷ p .frames)) σ n))
   act-wide (tests e) h p σ n = tested e σ _ _ (λ v. came refl n)
-  act-wide (enters q d) h p σ n = either (ltb (calls (p .frames)) 64) (came refl n) refused
+  act-wide (enters q) h p σ n = either (ltb (calls (p .frames)) 64) (came refl n) refused
+  act-wide (enters-back q) h p σ n = either (ltb (calls (p .frames)) 64) (came refl n) refused
   act-wide returns h p σ n = return-wide p (p .frames) σ n
   act-wide nothing h p σ n = came refl n
 
   module _ {f : List ℕ} (A : Accepts f t) where
     pub step-behind : (p : Place) (σ : Store) → length σ ≡ cells t → Wide (step t p σ) (step t p (σ ++ zs))
     step-behind p σ n =
-        let h = head t (p .b) (p .d) in
-        rw (step-is t p σ, step-is t p (σ ++ zs)) (act-wide (act (at t (p .b)) h (p .d)) (aims-at t (at t (p .b)) h (p .d) (numbers-at t (recordsOf t) (A .numbers) (p .b))) p σ n)
+        rw (step-is t p σ, step-is t p (σ ++ zs)) (act-wide (act (at t (p .b)) (p .d)) (aims-at t (at t (p .b)) (p .d) (numbers-at t (recordsOf t) (A .numbers) (p .b))) p σ n)
 
     -- the run of the longer store, and that a run keeps the store's size
     pub run-behind : (n : ℕ) (p : Place) (σ : Store) → length σ ≡ cells t → (run t n p (σ ++ zs) ≡ longer zs (run t n p σ)) × (length (run t n p σ .store) ≡ cells t)

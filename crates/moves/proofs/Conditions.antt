@@ -18,7 +18,7 @@ use Rattle.moves.specs.Places.{Dir, down, up, going, calls}
 use Rattle.moves.specs.Stores.{Reason, atEnd, wrongValue, badIndex, tooDeep, Answer, ok, no, bind, Store, layout, reasonOf, answered, evaluated, holds, entryAt, cellOf, assigned}
 use Rattle.moves.specs.Step.{again}
 use Rattle.moves.specs.Reasons.{Misses, Stops, in-read, misses, Faults, in-only, in-index, in-entry, Meets, ends, then-false, else-true, outside-false, again-true, by-zero, no-entry, deep}
-use Rattle.moves.proofs.Acts.{Act, assigns, moves, chooses, closes, opens, tests, enters, returns, nothing, act, wanted}
+use Rattle.moves.proofs.Acts.{Act, assigns, moves, chooses, closes, opens, tests, enters, enters-back, returns, nothing, act, wanted}
 use Rattle.moves.proofs.Why.{ok-no, no-no, Refuses}
 use Rattle.moves.proofs.Stopping.{stopped, stops-eval}
 
@@ -158,11 +158,12 @@ Top (called l ∷ F) = Unit {0}
 abbrev pub Shape : Act → List Frame → Type 0
 Shape (assigns o x e) fs = Unit {0}
 Shape moves fs = Unit {0}
-Shape (chooses e h) fs = Unit {0}
+Shape (chooses e) fs = Unit {0}
 Shape (closes e) fs = Branch fs
-Shape (opens e h) fs = Unit {0}
+Shape (opens e) fs = Unit {0}
 Shape (tests e) fs = Unit {0}
-Shape (enters q d) fs = Unit {0}
+Shape (enters q) fs = Unit {0}
+Shape (enters-back q) fs = Unit {0}
 Shape returns fs = Top fs
 Shape nothing fs = ⊥
 
@@ -229,7 +230,7 @@ module _ (τ : Tree) (σ : Store) (h : ℕ) (fs : List Frame) where
   in-until : (e : Expr) (f : Fault) → Stops τ σ e f → Faults τ σ (until e) f
   in-until e f q = in-only {o = 0} {x = 0} {e = e} (List·Memᴰ·tail (List·Memᴰ·tail (List·Memᴰ·tail (List·Memᴰ·head refl)))) q
 
-  pub refuses-meets : (ρ : Record) (d : Dir) (r : Reason) → Shape (act ρ h d) fs → calls fs ≤ 64 → Refuses τ (act ρ h d) d fs σ r → Meets τ σ h fs ρ d r
+  pub refuses-meets : (ρ : Record) (d : Dir) (r : Reason) → Shape (act ρ d) fs → calls fs ≤ 64 → Refuses τ h (act ρ d) d fs σ r → Meets τ σ h fs ρ d r
   unfolding act
   refuses-meets (names v ls) d r s n k = absurd k
   refuses-meets begin down r s n k = absurd k
@@ -253,7 +254,7 @@ module _ (τ : Tree) (σ : Store) (h : ℕ) (fs : List Frame) where
 
   -- ---- where a reason's condition holds, the step is refused for it
   abbrev Refused : Dir → Reason → Record → Type 0
-  Refused d r ρ = Refuses τ (act ρ h d) d fs σ r
+  Refused d r ρ = Refuses τ h (act ρ d) d fs σ r
 
   if-stops : (d : Dir) (e : Expr) (f : Fault) → Stops τ σ e f → Refused d (reasonOf f) (if e)
   unfolding act
@@ -303,15 +304,15 @@ module _ (τ : Tree) (σ : Store) (h : ℕ) (fs : List Frame) where
   end-refuse down e = (e, refl)
   end-refuse up e = (e, refl)
 
-  top-end : (d : Dir) → Shape (act (going d end begin) h d) fs → Top fs
+  top-end : (d : Dir) → Shape (act (going d end begin) d) fs → Top fs
   unfolding act
   top-end down s = s
   top-end up s = s
 
-  pub meets-refuses : (ρ : Record) (d : Dir) (r : Reason) → Shape (act ρ h d) fs → Meets τ σ h fs ρ d r → Refuses τ (act ρ h d) d fs σ r
+  pub meets-refuses : (ρ : Record) (d : Dir) (r : Reason) → Shape (act ρ d) fs → Meets τ σ h fs ρ d r → Refuses τ h (act ρ d) d fs σ r
   unfolding act
   meets-refuses ρ d r s (ends i k) =
-      subst⁻¹ (Refused d atEnd) i (end-refuse d (top-none fs (top-end d (subst (λ ρ. Shape (act ρ h d) fs) i s)) k))
+      subst⁻¹ (Refused d atEnd) i (end-refuse d (top-none fs (top-end d (subst (λ ρ. Shape (act ρ d) fs) i s)) k))
   meets-refuses ρ d r s (then-false e i q (v, k, b)) = subst⁻¹ (Refused d wrongValue) i (close-refuse d e (holds-is τ σ e v k ∙ rw (q, b)))
   meets-refuses ρ d r s (else-true e i q (v, k, b)) = subst⁻¹ (Refused d wrongValue) i (close-refuse d e (holds-is τ σ e v k ∙ rw (q, b)))
   meets-refuses ρ d r s (outside-false e i q (v, k, b)) =

@@ -9,7 +9,7 @@ use lib.Dec.{ltb}
 use Rattle.expr.specs.Tree.{Expr}
 use Rattle.records.specs.Records.{Target}
 use Rattle.order.specs.Trees.{Tree}
-use Rattle.moves.specs.Edges.{inThen, inElse, inDo, inLoop}
+use Rattle.moves.specs.Edges.{Frame, inThen, inElse, inDo, inLoop}
 use Rattle.moves.specs.Places.{Dir, down, up, opp, calls}
 use Rattle.moves.specs.Stores.{Answer, ok, no, bind, Store, Sized, holds, assigned, atEnd, tooDeep}
 use Rattle.moves.specs.Step.{again, must}
@@ -91,28 +91,24 @@ pub record Span (P : Prog) (c : Con) : Type 0 where
   pub in-m : onto (P .at (suc (c .m))) (suc (c .m)) ≡ suc (c .m)
   pub near : (q x : ℕ) → c .l ≤ x → x ≤ c .r → P .first q ≤ x → x ≤ P .last q → (P .first q < c .l) × (c .r < P .last q)
 
-pub record CondOk (P : Prog) (c : Con) : Type 0 where
-  pub at-l : P .at (c .l) ≡ ifL c
-  pub at-m : P .at (c .m) ≡ elseL c
-  pub at-r : P .at (c .r) ≡ fiL c
-  pub en-l : P .encl (c .l) ≡ inThen (c .l) ∷ P .encl (pred (c .l))
-  pub en-m′ : P .encl (pred (c .m)) ≡ inThen (c .l) ∷ P .encl (pred (c .l))
-  pub en-m : P .encl (c .m) ≡ inElse (c .l) ∷ P .encl (pred (c .l))
-  pub en-r′ : P .encl (pred (c .r)) ≡ inElse (c .l) ∷ P .encl (pred (c .l))
-  pub en-r : P .encl (c .r) ≡ P .encl (pred (c .l))
-  pub span : Span P c
-
-pub record LoopOk (P : Prog) (c : Con) : Type 0 where
-  pub at-l : P .at (c .l) ≡ fromL c
-  pub at-m : P .at (c .m) ≡ loopL c
-  pub at-r : P .at (c .r) ≡ untilL c
-  pub en-l : P .encl (c .l) ≡ inDo (c .l) ∷ P .encl (pred (c .l))
-  pub en-m′ : P .encl (pred (c .m)) ≡ inDo (c .l) ∷ P .encl (pred (c .l))
-  pub en-m : P .encl (c .m) ≡ inLoop (c .l) ∷ P .encl (pred (c .l))
-  pub en-r′ : P .encl (pred (c .r)) ≡ inLoop (c .l) ∷ P .encl (pred (c .l))
+-- A construct c, its three records and the frames of its two blocks.
+pub record ConOk (P : Prog) (c : Con) (ρl ρm ρr : Rec) (f g : Frame) : Type 0 where
+  pub at-l : P .at (c .l) ≡ ρl
+  pub at-m : P .at (c .m) ≡ ρm
+  pub at-r : P .at (c .r) ≡ ρr
+  pub en-l : P .encl (c .l) ≡ f ∷ P .encl (pred (c .l))
+  pub en-m′ : P .encl (pred (c .m)) ≡ f ∷ P .encl (pred (c .l))
+  pub en-m : P .encl (c .m) ≡ g ∷ P .encl (pred (c .l))
+  pub en-r′ : P .encl (pred (c .r)) ≡ g ∷ P .encl (pred (c .l))
   pub en-r : P .encl (c .r) ≡ P .encl (pred (c .l))
   pub fresh : (i : ℕ) → c .l ≤ i → again i (P .encl (pred (c .l))) ≡ false
   pub span : Span P c
+
+abbrev pub CondOk : Prog → Con → Type 0
+CondOk P c = ConOk P c (ifL c) (elseL c) (fiL c) (inThen (c .l)) (inElse (c .l))
+
+abbrev pub LoopOk : Prog → Con → Type 0
+LoopOk P c = ConOk P c (fromL c) (loopL c) (untilL c) (inDo (c .l)) (inLoop (c .l))
 
 -- A SET that the opposite direction undoes: what refusal 8 is for.
 abbrev pub Undoes : Tree → ℕ → Target → Expr → Type 0
@@ -150,7 +146,7 @@ pub record Wf (τ : Tree) (P : Prog) : Type 0 where
   pub plain : (x : ℕ) → calls (P .encl x) ≡ 0
   pub main-ok : ProcOk P 0
 
--- The labels of the open calls stand one in the procedure that the next (nameL v ls).
+-- The labels of the open calls stand one in the procedure that the next names.
 pub data Good (P : Prog) : ℕ → List ℕ → Type 0 where
   in-main : Good P 0 []
   by-call : {q q′ c : ℕ} {cs : List ℕ} → P .at c ≡ callL q → P .first q′ < c → c < P .last q′ → Good P q′ cs → Good P q (c ∷ cs)

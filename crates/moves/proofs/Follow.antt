@@ -5,7 +5,8 @@ use mathlib.Core.Bool.{Bool, true, false, cond, _&&_}
 use mathlib.Core.List.{List, [], _∷_, _++_, List·Memᴰ, List·Memᴰ·head, List·Memᴰ·tail, List·Memᴰ·not-nil}
 use lib.Dec.{eqb}
 use native.Mathlib.Omega.{arith}
-use borrow.Author.Tests.{eq-eqb, eqb-true}
+use borrow.Author.Tests.{eq-eqb, eqb-true, eqb-false}
+use Rattle.expr.proofs.Layer.{and-true}
 use Rattle.records.specs.Records.{kind}
 use Rattle.order.specs.Trees.{Tree}
 use Rattle.moves.specs.Labels.{at}
@@ -34,16 +35,12 @@ frame-is (inDo l) = refl
 frame-is (inLoop l) = refl
 frame-is (called l) = refl
 
-pub and-true : (a b : Bool) → (a && b) ≡ true → (a ≡ true) × (b ≡ true)
-and-true true b h = (refl, h)
-and-true false b h = absurd (let z : _≡_ {A = ℕ} 0 1 = cc in let y : ⊥ = omega arith in y)
-
 same-frame : (f g : Frame) → eqb (frameKind f) (frameKind g) ≡ true → eqb (frameLabel f) (frameLabel g) ≡ true → f ≡ g
 same-frame f g h k = sym (frame-is f) ∙ (ap₂ frame (eqb-true _ _ h) (eqb-true _ _ k) ∙ frame-is g)
 
 -- ---- the frames down to the first call
-true-false : {X : Type 0} {b : Bool} → b ≡ true → b ≡ false → X
-true-false h k = absurd (let z : _≡_ {A = ℕ} 0 1 = cc in let y : ⊥ = omega arith in y)
+pub clash : {X : Type 0} {b : Bool} → b ≡ true → b ≡ false → X
+clash h k = absurd (let z : _≡_ {A = ℕ} 0 1 = cc in let y : ⊥ = omega arith in y)
 
 no-call : (f : Frame) (F : List Frame) → calls (f ∷ F) ≡ 0 → (eqb (frameKind f) 4 ≡ false) × (calls F ≡ 0)
 no-call f F h = go′ (eqb (frameKind f) 4) h
@@ -58,11 +55,11 @@ inside-is (f ∷ F) S h = rw (eq-eqb (frameKind f) (frameKind f) refl, eq-eqb (f
 
 pub inside-only : (G F S : List Frame) → inside [] S ≡ true → calls G ≡ 0 → calls F ≡ 0 → inside G (F ++ S) ≡ true → G ≡ F
 inside-only [] [] S s g h k = refl
-inside-only [] (f ∷ F) S s g h k = true-false k (no-call f F h .0)
-inside-only (x ∷ G) [] [] s g h k = true-false {b = false} k refl
+inside-only [] (f ∷ F) S s g h k = clash k (no-call f F h .0)
+inside-only (x ∷ G) [] [] s g h k = clash {b = false} k refl
 inside-only (x ∷ G) [] (y ∷ S) s g h k =
     let e = eqb-true (frameKind x) (frameKind y) (and-true _ _ k .0) in
-    true-false (ap (λ n. eqb n 4) e ∙ s) (no-call x G g .0)
+    clash (ap (λ n. eqb n 4) e ∙ s) (no-call x G g .0)
 inside-only (x ∷ G) (f ∷ F) S s g h k =
     let y = and-true _ _ k in let z = and-true _ _ (y .1) in
     ap₂ _∷_ (same-frame x f (y .0) (z .0)) (inside-only G F S s (no-call x G g .1) (no-call f F h .1) (z .1))
@@ -77,7 +74,7 @@ find-is {X} f x (e ∷ es) e₀ m h u = go′ (f e) refl m (λ k. find-is f x es
     go′ : (b : Bool) → f e ≡ b → List·Memᴰ e₀ (e ∷ es) → (List·Memᴰ e₀ es → x (find f es) ≡ x e₀) → x (cond b e (find f es)) ≡ x e₀
     go′ true k m ih = u e (List·Memᴰ·head refl) k
     go′ false k (List·Memᴰ·tail m) ih = ih m
-    go′ false k (List·Memᴰ·head q) ih = true-false h (ap f q ∙ k)
+    go′ false k (List·Memᴰ·head q) ih = clash h (ap f q ∙ k)
 
 -- ---- how a label stands at the upper end and at the lower end of a gap
 data Upper (P : Prog) (g a : ℕ) : Type 0 where
@@ -246,75 +243,62 @@ module _ (τ : Tree) (w : Wf τ (prog τ)) where
           ap (λ x. frameLabel (top (x .within))) (r .is)
           ∙ (u (r .g) (sym (near-gap P (e .proc) (r .g) d) ∙ (ap (λ x. near x d) (sym (r .is)) ∙ eqb-true _ _ k)) ∙ sym (u g refl))
 
-  pub head-if : (q : ℕ) (c : Con) → CondOk P c → P .first q ≤ c .l → c .l < P .last q → head τ (c .l) down ≡ c .l
+  pub head-if : (q : ℕ) (c : Con) → CondOk P c → P .first q < c .l → c .r < P .last q → head τ (c .l) down ≡ c .l
   head-if q c k lo hi =
       let t : tip P (c .l) up ≡ c .l = rw (k .at-l) in
-      rw t at (entered q (c .l) down (c .l) lo hi (λ g e. if-down τ P g (c .l) c k refl (subst (Upper P g) (e ∙ t) (upper-at τ P g _ refl (w .here g)))))
+      rw t at (entered q (c .l) down (c .l) (omega arith) (omega arith) (λ g e. if-down τ P g (c .l) c k refl (subst (Upper P g) (e ∙ t) (upper-at τ P g _ refl (w .here g)))))
 
-  pub head-from : (q : ℕ) (c : Con) → LoopOk P c → P .first q ≤ c .l → c .l < P .last q → head τ (c .l) down ≡ c .l
+  pub head-from : (q : ℕ) (c : Con) → LoopOk P c → P .first q < c .l → c .r < P .last q → head τ (c .l) down ≡ c .l
   head-from q c k lo hi =
       let t : tip P (c .l) up ≡ c .l = rw (k .at-l) in
-      rw t at (entered q (c .l) down (c .l) lo hi (λ g e. from-down τ P g (c .l) c k refl (subst (Upper P g) (e ∙ t) (upper-at τ P g _ refl (w .here g)))))
+      rw t at (entered q (c .l) down (c .l) (omega arith) (omega arith) (λ g e. from-down τ P g (c .l) c k refl (subst (Upper P g) (e ∙ t) (upper-at τ P g _ refl (w .here g)))))
 
-  pub head-fi : (q : ℕ) (c : Con) → CondOk P c → P .first q ≤ pred (c .r) → pred (c .r) < P .last q → head τ (c .r) up ≡ c .l
+  pub head-fi : (q : ℕ) (c : Con) → CondOk P c → P .first q < c .l → c .r < P .last q → head τ (c .r) up ≡ c .l
   head-fi q c k lo hi =
       let i : suc (pred (c .r)) ≡ c .r = omega arith in
       let t : tip P (pred (c .r)) down ≡ c .r = rw (i, k .at-r) in
-      rw t at (entered q (pred (c .r)) up (c .l) lo hi (λ g e. fi-up τ P g (c .r) c k refl (subst (Lower P g) (e ∙ t) (lower-at τ P g _ refl (w .here (suc g))))))
+      rw t at (entered q (pred (c .r)) up (c .l) (omega arith) (omega arith) (λ g e. fi-up τ P g (c .r) c k refl (subst (Lower P g) (e ∙ t) (lower-at τ P g _ refl (w .here (suc g))))))
 
-  pub head-until : (q : ℕ) (c : Con) → LoopOk P c → P .first q ≤ pred (c .m) → pred (c .m) < P .last q → head τ (c .r) up ≡ c .l
+  pub head-until : (q : ℕ) (c : Con) → LoopOk P c → P .first q < c .l → c .r < P .last q → head τ (c .r) up ≡ c .l
   head-until q c k lo hi =
       let i : suc (pred (c .m)) ≡ c .m = omega arith in
       let t : tip P (pred (c .m)) down ≡ c .r = rw (i, k .at-m) in
-      rw t at (entered q (pred (c .m)) up (c .l) lo hi (λ g e. until-up τ P g (c .r) c k refl (subst (Lower P g) (e ∙ t) (lower-at τ P g _ refl (w .here (suc g))))))
+      rw t at (entered q (pred (c .m)) up (c .l) (omega arith) (omega arith) (λ g e. until-up τ P g (c .r) c k refl (subst (Lower P g) (e ∙ t) (lower-at τ P g _ refl (w .here (suc g))))))
 
   -- BEGIN and END, of which every procedure has one.
-  begin-of : (ρ : Rec) → kind (forget ρ) ≡ 2 → (q : ℕ) × (ρ ≡ beginL q)
-  unfolding kind
-  begin-of (nameL v ls) e = absurd (let z : ⊥ = omega arith in z)
-  begin-of (beginL q) e = (q, refl)
-  begin-of (endL q) e = absurd (let z : ⊥ = omega arith in z)
-  begin-of (setL o t ε) e = absurd (let z : ⊥ = omega arith in z)
-  begin-of skipL e = absurd (let z : ⊥ = omega arith in z)
-  begin-of (ifL c) e = absurd (let z : ⊥ = omega arith in z)
-  begin-of (elseL c) e = absurd (let z : ⊥ = omega arith in z)
-  begin-of (fiL c) e = absurd (let z : ⊥ = omega arith in z)
-  begin-of (fromL c) e = absurd (let z : ⊥ = omega arith in z)
-  begin-of (loopL c) e = absurd (let z : ⊥ = omega arith in z)
-  begin-of (untilL c) e = absurd (let z : ⊥ = omega arith in z)
-  begin-of (callL q) e = absurd (let z : ⊥ = omega arith in z)
-  begin-of (uncallL q) e = absurd (let z : ⊥ = omega arith in z)
+  no-gate : {A B : Type 0} (k : ℕ) → eqb k 2 ≡ false → eqb k 3 ≡ false → (k ≡ 2 → A) × (k ≡ 3 → B)
+  no-gate k a b = (λ e. absurd (eqb-false k 2 a e), λ e. absurd (eqb-false k 3 b e))
 
-  end-of : (ρ : Rec) → kind (forget ρ) ≡ 3 → (q : ℕ) × (ρ ≡ endL q)
+  gate-of : (ρ : Rec) → (kind (forget ρ) ≡ 2 → (q : ℕ) × (ρ ≡ beginL q)) × (kind (forget ρ) ≡ 3 → (q : ℕ) × (ρ ≡ endL q))
   unfolding kind
-  end-of (nameL v ls) e = absurd (let z : ⊥ = omega arith in z)
-  end-of (beginL q) e = absurd (let z : ⊥ = omega arith in z)
-  end-of (endL q) e = (q, refl)
-  end-of (setL o t ε) e = absurd (let z : ⊥ = omega arith in z)
-  end-of skipL e = absurd (let z : ⊥ = omega arith in z)
-  end-of (ifL c) e = absurd (let z : ⊥ = omega arith in z)
-  end-of (elseL c) e = absurd (let z : ⊥ = omega arith in z)
-  end-of (fiL c) e = absurd (let z : ⊥ = omega arith in z)
-  end-of (fromL c) e = absurd (let z : ⊥ = omega arith in z)
-  end-of (loopL c) e = absurd (let z : ⊥ = omega arith in z)
-  end-of (untilL c) e = absurd (let z : ⊥ = omega arith in z)
-  end-of (callL q) e = absurd (let z : ⊥ = omega arith in z)
-  end-of (uncallL q) e = absurd (let z : ⊥ = omega arith in z)
+  gate-of (nameL v ls) = no-gate _ refl refl
+  gate-of (beginL q) = (λ e. (q, refl), λ e. absurd (let z : ⊥ = omega arith in z))
+  gate-of (endL q) = (λ e. absurd (let z : ⊥ = omega arith in z), λ e. (q, refl))
+  gate-of (setL o t ε) = no-gate _ refl refl
+  gate-of skipL = no-gate _ refl refl
+  gate-of (ifL c) = no-gate _ refl refl
+  gate-of (elseL c) = no-gate _ refl refl
+  gate-of (fiL c) = no-gate _ refl refl
+  gate-of (fromL c) = no-gate _ refl refl
+  gate-of (loopL c) = no-gate _ refl refl
+  gate-of (untilL c) = no-gate _ refl refl
+  gate-of (callL q) = no-gate _ refl refl
+  gate-of (uncallL q) = no-gate _ refl refl
 
   first-only : (q g x : ℕ) → P .first q ≤ g → g < P .last q → Upper P g x → kind (forget (P .at x)) ≡ 2 → x ≡ P .first q
   first-only q g x lo hi (plain h) k =
-      let b = begin-of (P .at x) k in let l = rw (b .1) at (w .here x) in
+      let b = gate-of (P .at x) .0 k in let l = rw (b .1) at (w .here x) in
       l .0 ∙ ap (P .first) (sym (l .2 q (omega arith) (omega arith)))
-  first-only q g x lo hi (of-else c o i j) k = let b = begin-of (P .at x) k in let e = b .1 in cc
-  first-only q g x lo hi (of-loop c o i j) k = let b = begin-of (P .at x) k in let e = b .1 in cc
+  first-only q g x lo hi (of-else c o i j) k = let b = gate-of (P .at x) .0 k in let e = b .1 in cc
+  first-only q g x lo hi (of-loop c o i j) k = let b = gate-of (P .at x) .0 k in let e = b .1 in cc
 
   last-only : (q g x : ℕ) → P .first q ≤ g → g < P .last q → Lower P g x → kind (forget (P .at x)) ≡ 3 → x ≡ P .last q
   last-only q g x lo hi (plain h p) k =
-      let b = end-of (P .at x) k in let l = rw (b .1) at (w .here x) in
+      let b = gate-of (P .at x) .1 k in let l = rw (b .1) at (w .here x) in
       l .0 ∙ ap (P .last) (sym (l .2 q (omega arith) (omega arith)))
-  last-only q g x lo hi (of-else c o i j) k = let b = end-of (P .at x) k in let e = b .1 in cc
-  last-only q g x lo hi (of-loop c o i j) k = let b = end-of (P .at x) k in let e = b .1 in cc
-  last-only q g x lo hi (of-until c o i j) k = let b = end-of (P .at x) k in let e = b .1 in cc
+  last-only q g x lo hi (of-else c o i j) k = let b = gate-of (P .at x) .1 k in let e = b .1 in cc
+  last-only q g x lo hi (of-loop c o i j) k = let b = gate-of (P .at x) .1 k in let e = b .1 in cc
+  last-only q g x lo hi (of-until c o i j) k = let b = gate-of (P .at x) .1 k in let e = b .1 in cc
 
   -- The gap next to a procedure's gate, and the labels of its other gaps.
   gate-with : (q g : ℕ) (d : Dir) → P .first q ≤ g → g < P .last q → tip P g (opp d) ≡ gateL P q d → kind (at τ (gateL P q d)) ≡ going d 2 3

@@ -1,3 +1,4 @@
+-- The laws of `moves`: on the gaps between linked records first, then on the document's places.
 pub mod Linked
 pub mod Sizes
 pub mod Cuts

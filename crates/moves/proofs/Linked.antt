@@ -29,7 +29,7 @@ pub record Prog : Type 0 where
   pub first : ℕ → ℕ
   pub last : ℕ → ℕ
 
--- The record without its links, and the label of its IF or FROM.
+-- The record without its links.
 abbrev pub forget : Rec → Record
 forget (nameL v ls) = names v ls
 forget (beginL q) = begin
@@ -45,20 +45,24 @@ forget (untilL c) = until (c .e₂)
 forget (callL q) = call q
 forget (uncallL q) = uncall q
 
+-- What a record's construct gives, the label of its IF or FROM among it; 0 for a record that is part of none.
+abbrev pub ofCon : (Con → ℕ) → Rec → ℕ
+ofCon f (nameL v ls) = 0
+ofCon f (beginL q) = 0
+ofCon f (endL q) = 0
+ofCon f (setL o x e) = 0
+ofCon f skipL = 0
+ofCon f (ifL c) = f c
+ofCon f (elseL c) = f c
+ofCon f (fiL c) = f c
+ofCon f (fromL c) = f c
+ofCon f (loopL c) = f c
+ofCon f (untilL c) = f c
+ofCon f (callL q) = 0
+ofCon f (uncallL q) = 0
+
 abbrev pub headOf : Rec → ℕ
-headOf (nameL v ls) = 0
-headOf (beginL q) = 0
-headOf (endL q) = 0
-headOf (setL o x e) = 0
-headOf skipL = 0
-headOf (ifL c) = c .l
-headOf (elseL c) = c .l
-headOf (fiL c) = c .l
-headOf (fromL c) = c .l
-headOf (loopL c) = c .l
-headOf (untilL c) = c .l
-headOf (callL q) = 0
-headOf (uncallL q) = 0
+headOf ρ = ofCon (λ c. c .l) ρ
 
 -- Two neighbours x and x + 1 are the ends of one edge; where one of them is ELSE, LOOP or UNTIL, the edge belongs to a partner.
 -- onto: the label that an edge coming down to record x ends at. off: the label that an edge going down from record x starts at.

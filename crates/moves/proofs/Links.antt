@@ -1,9 +1,10 @@
 -- The linked records are the file's records, one for each label.
-use Prim.Native.Nat.{ℕ, zero, suc, _+_}
+use Prim.Native.Nat.{ℕ, zero, suc, _+_, _<_}
 use mathlib.Core.Path.{_≡_, refl, ap, _∙_}
 use mathlib.Core.List.{List, [], _∷_, _++_}
 use lib.ListN.{length, getD}
-use Rattle.records.specs.Records.{Record, names}
+use native.Mathlib.Omega.{arith}
+use Rattle.records.specs.Records.{Record, names, skip}
 use Rattle.order.specs.Trees.{Stmt, setS, skipS, callS, uncallS, ifS, fromS, Block, one, _then_, Tree, procedures, recordsS, recordsB, recordsP, recordsOf}
 use Rattle.moves.specs.Labels.{at}
 use Rattle.moves.proofs.Sizes.{sizeS, sizeB}
@@ -58,6 +59,15 @@ sameOf τ = more refl (sameP (procedures τ) 0 1)
 pub at-is : (τ : Tree) (x : ℕ) → at τ x ≡ forget (prog τ .at x)
 unfolding prog
 at-is τ x = same-at (sameOf τ) x
+
+-- Where there is a record, it does not matter what else would be read.
+other : {A : Type 0} (l : List A) (x : ℕ) (d e : A) → x < length l → getD l x d ≡ getD l x e
+other [] x d e h = absurd (omega arith)
+other (y ∷ l) zero d e h = refl
+other (y ∷ l) (suc x) d e h = other l x d e (omega arith)
+
+pub at-skip : (τ : Tree) (x : ℕ) → x < length (recordsOf τ) → getD (recordsOf τ) x skip ≡ at τ x
+at-skip τ x h = other (recordsOf τ) x skip (names 0 []) h
 
 -- A statement, and a row of them, has as many records as its size says.
 pub size-is : (s : Stmt) → length (recordsS s) ≡ sizeS s

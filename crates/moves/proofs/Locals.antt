@@ -1,21 +1,21 @@
 -- What each record of a statement has beside it: its construct's three records, the frames around them, its procedure.
 use Prim.Native.Nat.{ℕ, suc, _+_, _≤_, _<_, pred}
 use mathlib.Core.Path.{_≡_, refl, sym, _∙_}
-use mathlib.Core.Bool.{Bool, true, false}
+use mathlib.Core.Bool.{false}
 use mathlib.Core.List.{List, _∷_}
-use mathlib.Core.Logic.{_⊎_, inl, inr}
-use lib.Dec.{ltb}
+use mathlib.Core.Logic.{_⊎_, inl, inr, ⊎-elim}
 use native.Mathlib.Omega.{arith}
-use borrow.Author.Tests.{ltb-true, ltb-false, ne-eqb}
+use borrow.Author.Tests.{ne-eqb}
 use Rattle.expr.specs.Tree.{Expr}
 use Rattle.records.specs.Records.{Target}
 use Rattle.order.specs.Trees.{Stmt, setS, skipS, callS, uncallS, ifS, fromS, Block, one, _then_, Tree}
+use Rattle.order.proofs.OrderReads.{le-or-lt}
 use Rattle.moves.proofs.Sizes.{sizeS, sizeB}
 use Rattle.moves.specs.Edges.{Frame, inThen, inElse, inDo, inLoop}
 use Rattle.moves.specs.Step.{again}
 use Rattle.moves.proofs.Linked.{Rec, setL, skipL, callL, uncallL, Prog, onto}
-use Rattle.moves.proofs.Cuts.{Span, CondOk, LoopOk, Undoes, SimpleOk, ProcOk, Local}
-use Rattle.moves.proofs.Rows.{con, rowsS, rowsB, lengthS, lengthB, Holds, holds-left, holds-right, holds-around, entryB, endS, endB}
+use Rattle.moves.proofs.Cuts.{Span, ConOk, Undoes, SimpleOk, ProcOk, Local}
+use Rattle.moves.proofs.Rows.{row, con, Wrapped, rowsS, rowsB, lengthS, lengthB, Holds, holds-left, holds-right, holds-around, entryB, endS, endB}
 
 -- What refusals 7 and 8 leave: calls of procedures that are there, and SETs that can be undone.
 abbrev mutual
@@ -31,20 +31,11 @@ abbrev mutual
   FineB (one s) Q U = FineS s Q U
   FineB (_then_ s b) Q U = FineS s Q U × FineB b Q U
 
-pub which : (x y : ℕ) → (x < y) ⊎ ((x ≡ y) ⊎ (y < x))
-which x y = go′ (ltb x y) refl (ltb y x) refl
-  where
-    go′ : (b : Bool) → ltb x y ≡ b → (c : Bool) → ltb y x ≡ c → (x < y) ⊎ ((x ≡ y) ⊎ (y < x))
-    go′ true h c k = inl (ltb-true x y h)
-    go′ false h true k = inr (inr (ltb-true y x k))
-    go′ false h false k = let a = ltb-false x y h in let b = ltb-false y x k in inr (inl (omega arith))
-
 pub either : (x y : ℕ) {L : Type 0} → (x < y → L) → (y ≤ x → L) → L
-either x y {L} f g = go′ (ltb x y) refl
-  where
-    go′ : (b : Bool) → ltb x y ≡ b → L
-    go′ true h = f (ltb-true x y h)
-    go′ false h = g (ltb-false x y h)
+either x y f g = ⊎-elim g f (le-or-lt y x)
+
+pub which : (x y : ℕ) → (x < y) ⊎ ((x ≡ y) ⊎ (y < x))
+which x y = either x y (λ h. inl h) (λ h. inr (either y x (λ k. inr k) (λ k. inl (omega arith))))
 
 -- Where a block stands: from label n to before label k, inside the constructs F.
 pub record Ctx (P : Prog) (F : List Frame) (n k : ℕ) : Type 0 where
@@ -101,40 +92,21 @@ module _ (τ : Tree) (P : Prog) (Q : ℕ → Type 0) (Q→ok : (q : ℕ) → Q q
     near = λ q x a b a′ b′. let h = c .near q x a (omega arith) a′ b′ in (h .0, omega arith);
   }
 
-  pub cond-ok : (F : List Frame) (n : ℕ) (e : Expr) (s t : Block) (e′ : Expr) → Holds P n (rowsS (ifS e s t e′) F n)
-      → Ctx P F n (n + suc (sizeB s + suc (sizeB t + 1))) → CondOk P (con n e s t e′)
-  unfolding sizeS rowsS
-  cond-ok F n e s t e′ h c =
-      let w = holds-around P n (sizeB s) (sizeB t) _ _ _ _ _ (lengthB s _ _) (lengthB t _ _) h in
-      record {
-        at-l = w .at-l;
-        at-m = w .at-m;
-        at-r = w .at-r;
-        en-l = rw (c .before) (w .en-l);
-        en-m′ = rw (c .before) (endB P s _ _ (w .left));
-        en-m = rw (c .before) (w .en-m);
-        en-r′ = rw (c .before) (endB P t _ _ (w .right));
-        en-r = rw (c .before) (w .en-r);
-        span = span F n e s t e′ c (entryB P s _ _ (w .left)) (entryB P t _ _ (w .right));
-      }
-
-  pub loop-ok : (F : List Frame) (n : ℕ) (e : Expr) (s t : Block) (e′ : Expr) → Holds P n (rowsS (fromS e s t e′) F n)
-      → Ctx P F n (n + suc (sizeB s + suc (sizeB t + 1))) → LoopOk P (con n e s t e′)
-  unfolding sizeS rowsS
-  loop-ok F n e s t e′ h c =
-      let w = holds-around P n (sizeB s) (sizeB t) _ _ _ _ _ (lengthB s _ _) (lengthB t _ _) h in
-      record {
-        at-l = w .at-l;
-        at-m = w .at-m;
-        at-r = w .at-r;
-        en-l = rw (c .before) (w .en-l);
-        en-m′ = rw (c .before) (endB P s _ _ (w .left));
-        en-m = rw (c .before) (w .en-m);
-        en-r′ = rw (c .before) (endB P t _ _ (w .right));
-        en-r = rw (c .before) (w .en-r);
-        fresh = λ i h. rw (c .before) (c .fresh i h);
-        span = span F n e s t e′ c (entryB P s _ _ (w .left)) (entryB P t _ _ (w .right));
-      }
+  pub con-ok : (F : List Frame) (n : ℕ) (e : Expr) (s t : Block) (e′ : Expr) {ρl ρm ρr : Rec} {f g : Frame}
+      → Wrapped P n (suc n + sizeB s) (suc (suc n + sizeB s) + sizeB t) (row ρl (f ∷ F)) (rowsB s (f ∷ F) (suc n)) (row ρm (g ∷ F)) (rowsB t (g ∷ F) (suc (suc n + sizeB s))) (row ρr F)
+      → Ctx P F n (n + suc (sizeB s + suc (sizeB t + 1))) → ConOk P (con n e s t e′) ρl ρm ρr f g
+  con-ok F n e s t e′ w c = record {
+    at-l = w .at-l;
+    at-m = w .at-m;
+    at-r = w .at-r;
+    en-l = rw (c .before) (w .en-l);
+    en-m′ = rw (c .before) (endB P s _ _ (w .left));
+    en-m = rw (c .before) (w .en-m);
+    en-r′ = rw (c .before) (endB P t _ _ (w .right));
+    en-r = rw (c .before) (w .en-r);
+    fresh = λ i h. rw (c .before) (c .fresh i h);
+    span = span F n e s t e′ c (entryB P s _ _ (w .left)) (entryB P t _ _ (w .right));
+  }
 
   mutual
     unfolding sizeS rowsS
@@ -147,7 +119,7 @@ module _ (τ : Tree) (P : Prog) (Q : ℕ → Type 0) (Q→ok : (q : ℕ) → Q q
     localS (uncallS q) F n h f c x a b = put x n (uncallL q) (omega arith) (h .0) (Q→ok q f, simple n F (h .1) c)
     localS (ifS e s t e′) F n h f c x a b =
         let w = holds-around P n (sizeB s) (sizeB t) _ _ _ _ _ (lengthB s _ _) (lengthB t _ _) h in
-        let k = cond-ok F n e s t e′ h c in
+        let k = con-ok F n e s t e′ w c in
         pick5 n (sizeB s) (sizeB t) x _ a b
         (λ i. put x n _ i (w .at-l) (refl, k))
         (λ i′ j′. localB s (inThen n ∷ F) (suc n) (w .left) (f .0) (inner F n _ c _ _ _ (w .en-l) (omega arith) (omega arith) (λ i j. refl)) x i′ j′)
@@ -156,7 +128,7 @@ module _ (τ : Tree) (P : Prog) (Q : ℕ → Type 0) (Q→ok : (q : ℕ) → Q q
         (λ i. put x _ _ i (w .at-r) (refl, k))
     localS (fromS e s t e′) F n h f c x a b =
         let w = holds-around P n (sizeB s) (sizeB t) _ _ _ _ _ (lengthB s _ _) (lengthB t _ _) h in
-        let k = loop-ok F n e s t e′ h c in
+        let k = con-ok F n e s t e′ w c in
         pick5 n (sizeB s) (sizeB t) x _ a b
         (λ i. put x n _ i (w .at-l) (refl, k))
         (λ i′ j′. localB s (inDo n ∷ F) (suc n) (w .left) (f .0) (inner F n _ c _ _ _ (w .en-l) (omega arith) (omega arith) (λ i j. refl)) x i′ j′)

@@ -29,10 +29,6 @@ pub opp-opp : (d : Dir) → opp (opp d) ≡ d
 opp-opp down = refl
 opp-opp up = refl
 
-same-refl : (v : Bool) → same v v ≡ true
-same-refl true = refl
-same-refl false = refl
-
 module _ (τ : Tree) (P : Prog) where
   -- What the outcome of a step from s is to be: where it arrives, the place fits and the opposite step arrives at s again.
   abbrev pub Undone : Cut → Store → Answer (Cut × Store) → Type 0

@@ -18,35 +18,21 @@ use Rattle.moves.proofs.Gaps.{tip, gapAt, on-edge, edge-on}
 use Rattle.moves.proofs.Follow.{one-gap, ahead, ahead-gap}
 use Rattle.moves.proofs.View.{stack, view, inner, stack-outside, inner-stack, calls-stack}
 
-forget-call : (q : ℕ) (ρ : Rec) → forget ρ ≡ call q → ρ ≡ callL q
-forget-call q (nameL v ls) e = cc
-forget-call q (beginL p) e = cc
-forget-call q (endL p) e = cc
-forget-call q (setL o t ε) e = cc
-forget-call q skipL e = cc
-forget-call q (ifL c) e = cc
-forget-call q (elseL c) e = cc
-forget-call q (fiL c) e = cc
-forget-call q (fromL c) e = cc
-forget-call q (loopL c) e = cc
-forget-call q (untilL c) e = cc
-forget-call q (callL p) e = cc
-forget-call q (uncallL p) e = cc
-
-forget-uncall : (q : ℕ) (ρ : Rec) → forget ρ ≡ uncall q → ρ ≡ uncallL q
-forget-uncall q (nameL v ls) e = cc
-forget-uncall q (beginL p) e = cc
-forget-uncall q (endL p) e = cc
-forget-uncall q (setL o t ε) e = cc
-forget-uncall q skipL e = cc
-forget-uncall q (ifL c) e = cc
-forget-uncall q (elseL c) e = cc
-forget-uncall q (fiL c) e = cc
-forget-uncall q (fromL c) e = cc
-forget-uncall q (loopL c) e = cc
-forget-uncall q (untilL c) e = cc
-forget-uncall q (callL p) e = cc
-forget-uncall q (uncallL p) e = cc
+-- A record that is a CALL or an UNCALL without its links is one with them.
+forget-call : (q : ℕ) (ρ : Rec) → (forget ρ ≡ call q → ρ ≡ callL q) × (forget ρ ≡ uncall q → ρ ≡ uncallL q)
+forget-call q (nameL v ls) = (λ e. cc, λ e. cc)
+forget-call q (beginL p) = (λ e. cc, λ e. cc)
+forget-call q (endL p) = (λ e. cc, λ e. cc)
+forget-call q (setL o t ε) = (λ e. cc, λ e. cc)
+forget-call q skipL = (λ e. cc, λ e. cc)
+forget-call q (ifL c) = (λ e. cc, λ e. cc)
+forget-call q (elseL c) = (λ e. cc, λ e. cc)
+forget-call q (fiL c) = (λ e. cc, λ e. cc)
+forget-call q (fromL c) = (λ e. cc, λ e. cc)
+forget-call q (loopL c) = (λ e. cc, λ e. cc)
+forget-call q (untilL c) = (λ e. cc, λ e. cc)
+forget-call q (callL p) = (λ e. cc, λ e. cc)
+forget-call q (uncallL p) = (λ e. cc, λ e. cc)
 
 -- The labels of the calls among the frames.
 abbrev callsIn : List Frame → List ℕ
@@ -96,8 +82,8 @@ module _ (τ : Tree) (w : Wf τ (prog τ)) where
   P = prog τ
 
   linked : (c q : ℕ) → (at τ c ≡ call q) ⊎ (at τ c ≡ uncall q) → (P .at c ≡ callL q) ⊎ (P .at c ≡ uncallL q)
-  linked c q (inl e) = inl (forget-call q (P .at c) (sym (at-is τ c) ∙ e))
-  linked c q (inr e) = inr (forget-uncall q (P .at c) (sym (at-is τ c) ∙ e))
+  linked c q (inl e) = inl (forget-call q (P .at c) .0 (sym (at-is τ c) ∙ e))
+  linked c q (inr e) = inr (forget-call q (P .at c) .1 (sym (at-is τ c) ∙ e))
 
   -- Frames outside a procedure, from the calls and back.
   calls-of : {q : ℕ} {G : List Frame} → Outer τ q G → (cs : List ℕ) × Good P q cs × (G ≡ stack P cs)

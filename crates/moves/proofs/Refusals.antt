@@ -37,13 +37,13 @@ module _ (τ : Tree) (w : Wf τ (prog τ)) where
   in-else l F G cs e = (l, G ++ stack P cs, inr (ap (λ x. x ++ stack P cs) e))
 
   shape-with : (g : ℕ) (d : Dir) (b : ℕ) (fs : List Frame) {ρ ρb : Rec} → P .at (met g d) ≡ ρ → side ρ (met g d) d ≡ b → P .at b ≡ ρb
-      → Shape (act (forget ρb) (head τ b d) d) fs → Shape (act (at τ (tip P g d)) (head τ (tip P g d) d) d) fs
+      → Shape (act (forget ρb) d) fs → Shape (act (at τ (tip P g d)) d) fs
   shape-with g d b fs {ρ} {ρb} e s h k =
       let i : tip P g d ≡ b = rw e s in
-      subst⁻¹ (λ x. Shape (act (at τ x) (head τ x d) d) fs) i (subst⁻¹ (λ r. Shape (act r (head τ b d) d) fs) (at-is τ b ∙ ap forget h) k)
+      subst⁻¹ (λ x. Shape (act (at τ x) d) fs) i (subst⁻¹ (λ r. Shape (act r d) fs) (at-is τ b ∙ ap forget h) k)
 
   shape : (g : ℕ) (d : Dir) (cs : List ℕ) (ρ : Rec) → P .at (met g d) ≡ ρ → Local τ P ρ (met g d) → (F : Sits P (record { g = g; d = d; cs = cs }))
-      → Shape (act (at τ (tip P g d)) (head τ (tip P g d) d) d) (P .encl g ++ stack P cs)
+      → Shape (act (at τ (tip P g d)) d) (P .encl g ++ stack P cs)
   unfolding act
   shape g d cs (nameL v ls) e h F = absurd (h (F .q) (lo-met τ P g d cs F) (hi-met τ P g d cs F))
   shape g down cs (beginL q) e h F = absurd (not-begin τ P g cs q h F)
@@ -72,20 +72,20 @@ module _ (τ : Tree) (w : Wf τ (prog τ)) where
   shape g up cs (uncallL q) e k F = shape-with g up g _ e refl e tt
 
   -- Where a place fits, its record does something, and the frames are the ones that this takes for granted.
-  pub shape-fits : (p : Place) → Fits τ p → Shape (act (at τ (p .b)) (head τ (p .b) (p .d)) (p .d)) (p .frames)
+  pub shape-fits : (p : Place) → Fits τ p → Shape (act (at τ (p .b)) (p .d)) (p .frames)
   shape-fits p f =
       let k = fits-placed τ w p f in let s = k .cut in
-      subst⁻¹ (λ k. Shape (act (at τ (k .b)) (head τ (k .b) (k .d)) (k .d)) (k .frames)) (k .is)
+      subst⁻¹ (λ k. Shape (act (at τ (k .b)) (k .d)) (k .frames)) (k .is)
       (shape (s .g) (s .d) (s .cs) _ refl (w .here (met (s .g) (s .d))) (k .sits))
 
-  pub acts : (p : Place) → Fits τ p → act (at τ (p .b)) (head τ (p .b) (p .d)) (p .d) ≡ nothing → ⊥
+  pub acts : (p : Place) → Fits τ p → act (at τ (p .b)) (p .d) ≡ nothing → ⊥
   acts p f e = subst (λ α. Shape α (p .frames)) e (shape-fits p f)
 
   -- The step answers r exactly if r's condition holds.
   pub refused : (p : Place) → Fits τ p → (σ : Store) (r : Reason) → step τ p σ ≡ no r ↔ Condition τ p σ r
   refused p f σ r =
       let ρ = at τ (p .b) in let h = head τ (p .b) (p .d) in
-      let k = perform-no τ (act ρ h (p .d)) p σ r in
+      let k = perform-no τ (act ρ (p .d)) p σ r in
       let s = shape-fits p f in let i = step-is τ p σ in
       (λ e. refuses-meets τ σ h (p .frames) ρ (p .d) r s (f .few) (k .0 (sym i ∙ e)), λ c. i ∙ k .1 (meets-refuses τ σ h (p .frames) ρ (p .d) r s c))
 

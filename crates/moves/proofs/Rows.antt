@@ -173,41 +173,45 @@ endOf t q = endFrom (procedures t) 1 q
 unfoldable pub prog : Tree → Prog
 prog τ = record { at = λ x. (getD (rowsOf τ) x noRow) .rec; encl = λ x. (getD (rowsOf τ) x noRow) .after; first = beginOf τ; last = endOf τ }
 
+-- What each of the rows has.
+abbrev pub Each : (Row → Type 0) → List Row → Type 0
+Each Q [] = Unit {0}
+Each Q (ρ ∷ R) = Q ρ × Each Q R
+
+module _ (Q : Row → Type 0) where
+  pub each-append : (R S : List Row) → Each Q R → Each Q S → Each Q (R ++ S)
+  each-append [] S a b = b
+  each-append (ρ ∷ R) S a b = (a .0, each-append R S (a .1) b)
+
+  pub each-around : (x : Row) (R : List Row) (y : Row) (S : List Row) (z : Row) → Q x → Each Q R → Q y → Each Q S → Q z → Each Q (around x R y S z)
+  unfolding around
+  each-around x R y S z a b c d e = (a, each-append R _ b (c, each-append S _ d (e, tt)))
+
+  pub each-getD : (R : List Row) (x : ℕ) → Q noRow → Each Q R → Q (getD R x noRow)
+  each-getD [] x n h = n
+  each-getD (ρ ∷ R) zero n h = h .0
+  each-getD (ρ ∷ R) (suc x) n h = each-getD R x n (h .1)
+
 -- Plain frames: no call among the constructs.
-abbrev pub Plain : List Row → Type 0
-Plain [] = Unit {0}
-Plain (ρ ∷ R) = (calls (ρ .after) ≡ 0) × Plain R
-
-pub plain-append : (R S : List Row) → Plain R → Plain S → Plain (R ++ S)
-plain-append [] S a b = b
-plain-append (ρ ∷ R) S a b = (a .0, plain-append R S (a .1) b)
-
-pub plain-around : (x : Row) (R : List Row) (y : Row) (S : List Row) (z : Row) → calls (x .after) ≡ 0 → Plain R → calls (y .after) ≡ 0 → Plain S
-    → calls (z .after) ≡ 0 → Plain (around x R y S z)
-unfolding around
-plain-around x R y S z a b c d e = (a, plain-append R _ b (c, plain-append S _ d (e, tt)))
+abbrev pub Plain : Row → Type 0
+Plain ρ = calls (ρ .after) ≡ 0
 
 mutual
   unfolding rowsS
 
-  pub plainS : (s : Stmt) (F : List Frame) (n : ℕ) → calls F ≡ 0 → Plain (rowsS s F n)
+  plainS : (s : Stmt) (F : List Frame) (n : ℕ) → calls F ≡ 0 → Each Plain (rowsS s F n)
   plainS (setS o t ε) F n h = (h, tt)
   plainS skipS F n h = (h, tt)
   plainS (callS q) F n h = (h, tt)
   plainS (uncallS q) F n h = (h, tt)
-  plainS (ifS e s t e′) F n h = plain-around _ _ _ _ _ h (plainB s _ _ h) h (plainB t _ _ h) h
-  plainS (fromS e s t e′) F n h = plain-around _ _ _ _ _ h (plainB s _ _ h) h (plainB t _ _ h) h
+  plainS (ifS e s t e′) F n h = each-around Plain _ _ _ _ _ h (plainB s _ _ h) h (plainB t _ _ h) h
+  plainS (fromS e s t e′) F n h = each-around Plain _ _ _ _ _ h (plainB s _ _ h) h (plainB t _ _ h) h
 
-  pub plainB : (b : Block) (F : List Frame) (n : ℕ) → calls F ≡ 0 → Plain (rowsB b F n)
+  plainB : (b : Block) (F : List Frame) (n : ℕ) → calls F ≡ 0 → Each Plain (rowsB b F n)
   plainB (one s) F n h = plainS s F n h
-  plainB (_then_ s b) F n h = plain-append (rowsS s F n) _ (plainS s F n h) (plainB b F _ h)
+  plainB (_then_ s b) F n h = each-append Plain (rowsS s F n) _ (plainS s F n h) (plainB b F _ h)
 
-pub plainP : (bs : List Block) (q n : ℕ) → Plain (rowsP bs q n)
+pub plainP : (bs : List Block) (q n : ℕ) → Each Plain (rowsP bs q n)
 unfolding rowsP
 plainP [] q n = tt
-plainP (b ∷ bs) q n = (refl, plain-append (rowsB b [] (suc n)) _ (plainB b [] (suc n) refl) (refl, plainP bs _ _))
-
-pub plain-getD : (R : List Row) (x : ℕ) → Plain R → calls ((getD R x noRow) .after) ≡ 0
-plain-getD [] x h = refl
-plain-getD (ρ ∷ R) zero h = h .0
-plain-getD (ρ ∷ R) (suc x) h = plain-getD R x (h .1)
+plainP (b ∷ bs) q n = (refl, each-append Plain (rowsB b [] (suc n)) _ (plainB b [] (suc n) refl) (refl, plainP bs _ _))

@@ -96,23 +96,6 @@ module _ (s : Step) where
       let p₁ = runBy s n p σ .place in let σ₁ = runBy s n p σ .store in
       sym (run-only (n + m) p σ _ (is-join n m h (runBy s m p₁ σ₁) (run-is m p₁ σ₁)))
 
-  -- A run that was refused is the same with more steps asked.
-  pub run-stopped : (n m : ℕ) (p : Place) (σ : Store) (c : Reason) → runBy s n p σ .stop ≡ because c → runBy s (n + m) p σ ≡ runBy s n p σ
-  run-stopped n m p σ c e = go′ (runBy s n p σ) (run-is n p σ) e
-    where
-      go′ : (r : Ran) → IsRun s n p σ r → r .stop ≡ because c → runBy s (n + m) p σ ≡ r
-      go′ r (all h) k = absurd (let z : _≡_ {A = ℕ} 0 1 = cc in let y : ⊥ = omega arith in y)
-      go′ r (fewer {k = j} {r = x} a h b) k = fewer-is (n + m) j x (omega arith) h b
-
-  -- A run that stops for a reason is refused at its last place.
-  pub run-reason : (n : ℕ) (p : Place) (σ : Store) (c : Reason) → runBy s n p σ .stop ≡ because c
-      → (runBy s n p σ .steps < n) × (s (runBy s n p σ .place) (runBy s n p σ .store) ≡ no c)
-  run-reason n p σ c e = go′ (runBy s n p σ) (run-is n p σ) e
-    where
-      go′ : (r : Ran) → IsRun s n p σ r → r .stop ≡ because c → (r .steps < n) × (s (r .place) (r .store) ≡ no c)
-      go′ r (all h) k = absurd (let z : _≡_ {A = ℕ} 0 1 = cc in let y : ⊥ = omega arith in y)
-      go′ r (fewer a h b) k = (a, b ∙ ap no (cc))
-
   snoc : {n : ℕ} {p p₁ p′ : Place} {σ σ₁ σ′ : Store} → Steps s n p σ p₁ σ₁ → s p₁ σ₁ ≡ ok (p′, σ′) → Steps s (suc n) p σ p′ σ′
   snoc none e = then e none
   snoc (then h r) e = then h (snoc r e)

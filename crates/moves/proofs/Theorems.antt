@@ -7,7 +7,7 @@ use Rattle.records.specs.Records.{names, begin, end, else, loop}
 use Rattle.order.specs.Trees.{Tree}
 use Rattle.program.specs.Says.{Accepts}
 use Rattle.moves.specs.Labels.{at}
-use Rattle.moves.specs.Places.{Dir, down, up, Place, turn, head, Fits}
+use Rattle.moves.specs.Places.{Dir, down, up, Place, turn, Fits}
 use Rattle.moves.specs.Stores.{Reason, atEnd, Answer, ok, no, bind, Store, Sized}
 use Rattle.moves.specs.Step.{step, stepBack, start}
 use Rattle.moves.specs.Reasons.{Condition}
@@ -55,12 +55,12 @@ module _ {f : List ℕ} {t : Tree} (accepts : Accepts f t) where
       × (at t (p .b) ≡ begin → p .d ≡ down → ⊥) × (at t (p .b) ≡ end → p .d ≡ up → ⊥)
   unfolding act
   acts p f =
-      let no = refusals.acts t (accepted-wf accepts) p f in let h = head t (p .b) (p .d) in (
-        λ v ls e. no (ap (λ ρ. act ρ h (p .d)) e),
-        λ e. no (ap (λ ρ. act ρ h (p .d)) e),
-        λ e. no (ap (λ ρ. act ρ h (p .d)) e),
-        λ e k. no (ap₂ (λ ρ d. act ρ h d) e k),
-        λ e k. no (ap₂ (λ ρ d. act ρ h d) e k),
+      let no = refusals.acts t (accepted-wf accepts) p f in (
+        λ v ls e. no (ap (λ ρ. act ρ (p .d)) e),
+        λ e. no (ap (λ ρ. act ρ (p .d)) e),
+        λ e. no (ap (λ ρ. act ρ (p .d)) e),
+        λ e k. no (ap₂ act e k),
+        λ e k. no (ap₂ act e k),
       )
 
   -- 1, 2. Where a step forward arrives, the place fits, the store has its size, and the step back arrives at the former store, labels, direction and frames.

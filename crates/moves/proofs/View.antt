@@ -11,16 +11,16 @@ use Rattle.records.specs.Records.{kind}
 use Rattle.order.specs.Trees.{Tree}
 use Rattle.moves.specs.Labels.{at}
 use Rattle.moves.specs.Edges.{Frame, inThen, inElse, inDo, inLoop, called, frameKind}
-use Rattle.moves.specs.Places.{Dir, down, up, opp, Place, head, calls, gate}
+use Rattle.moves.specs.Places.{Dir, down, up, opp, Place, calls, gate}
 use Rattle.moves.specs.Stores.{Answer, ok, no, bind, Store, tooDeep}
 use Rattle.moves.specs.Step.{after, again, inside, must, step}
 use Rattle.moves.specs.Step as does
-use Rattle.moves.proofs.Linked.{Con, Rec, callL, uncallL, Prog, forget, headOf, side, gateL}
+use Rattle.moves.proofs.Linked.{Con, Rec, callL, uncallL, Prog, forget, side, gateL}
 use Rattle.moves.proofs.Cuts.{Cut, met, gap, leave, enter′, return′, port, through, cstep, Span, SimpleOk, ProcOk, Wf, Good, in-main, by-call, by-uncall, Sits}
 use Rattle.moves.proofs.Loop.{met-gap, pos1, gate-pos, fit, fit1, fit3}
 use Rattle.moves.proofs.Rows.{prog}
 use Rattle.moves.proofs.Links.{at-is}
-use Rattle.moves.proofs.Acts.{act, enters, perform, step-is}
+use Rattle.moves.proofs.Acts.{act, perform, step-is}
 use Rattle.moves.proofs.Gaps.{tip}
 use Rattle.moves.proofs.Follow.{ahead, ahead-gap, gate-is}
 
@@ -150,21 +150,20 @@ module _ (τ : Tree) (w : Wf τ (prog τ)) where
   spot g d cs b = record { a = tip P g (opp d); b = b; d = d; frames = P .encl g ++ stack P cs }
 
   pub sim-with : (g : ℕ) (d : Dir) (cs : List ℕ) (σ : Store) (b : ℕ) {ρ ρb : Rec} → P .at (met g d) ≡ ρ → side ρ (met g d) d ≡ b → P .at b ≡ ρb
-      → act (forget ρb) (head τ b d) d ≡ act (forget ρb) (headOf ρb) d
-      → perform τ (act (forget ρb) (headOf ρb) d) (spot g d cs b) σ ≡ seen P (through τ P (port ρ (met g d) d) (met g d) d cs σ)
+      → perform τ (act (forget ρb) d) (spot g d cs b) σ ≡ seen P (through τ P (port ρ (met g d) d) (met g d) d cs σ)
       → step τ (view P (record { g = g; d = d; cs = cs })) σ ≡ seen P (cstep τ P (record { g = g; d = d; cs = cs }) σ)
   unfolding cstep
-  sim-with g d cs σ b {ρ} {ρb} e tb eb i h =
+  sim-with g d cs σ b {ρ} {ρb} e tb eb h =
       step-is τ (view P (record { g = g; d = d; cs = cs })) σ
-      ∙ (ap (λ x. perform τ (act (at τ x) (head τ x d) d) (spot g d cs x) σ) (rw e tb)
-      ∙ (ap (λ α. perform τ α (spot g d cs b) σ) (ap (λ r. act r (head τ b d) d) (at-is τ b ∙ ap forget eb) ∙ i)
+      ∙ (ap (λ x. perform τ (act (at τ x) d) (spot g d cs x) σ) (rw e tb)
+      ∙ (ap (λ r. perform τ (act r d) (spot g d cs b) σ) (at-is τ b ∙ ap forget eb)
       ∙ (h ∙ ap (λ k. seen P (through τ P (port k (met g d) d) (met g d) d cs σ)) (sym e))))
 
-  encl-gap : (c : ℕ) (d : Dir) → SimpleOk P c → P .encl c ≡ P .encl (gap c d)
+  pub encl-gap : (c : ℕ) (d : Dir) → SimpleOk P c → P .encl c ≡ P .encl (gap c d)
   encl-gap c down k = refl
   encl-gap c up k = k .en
 
-  encl-met : (g : ℕ) (d : Dir) → SimpleOk P (met g d) → P .encl (met g d) ≡ P .encl g
+  pub encl-met : (g : ℕ) (d : Dir) → SimpleOk P (met g d) → P .encl (met g d) ≡ P .encl g
   encl-met g down k = k .en
   encl-met g up k = refl
 
@@ -192,11 +191,11 @@ module _ (τ : Tree) (w : Wf τ (prog τ)) where
       ap (λ p. ok (p, σ)) (rw (r, ac) (arrive c c d′ cs′ _ (fit τ P q′ cs′ o (omega arith) c d′ lo hi) (omega arith) (rw ac (side-uncall q c (opp d′)))
       (ap (λ k. k ++ stack P cs′) (encl-gap c d′ (at-uncall c q ac)))))
 
-  gate-side : (q : ℕ) (d : Dir) → ProcOk P q → side (P .at (gateL P q d)) (gateL P q d) (opp d) ≡ gateL P q d
+  pub gate-side : (q : ℕ) (d : Dir) → ProcOk P q → side (P .at (gateL P q d)) (gateL P q d) (opp d) ≡ gateL P q d
   gate-side q down k = rw (k .at-first)
   gate-side q up k = rw (k .at-last)
 
-  gate-encl : (q : ℕ) (d : Dir) → ProcOk P q → P .encl (gap (gateL P q d) d) ≡ []
+  pub gate-encl : (q : ℕ) (d : Dir) → ProcOk P q → P .encl (gap (gateL P q d) d) ≡ []
   gate-encl q down k = k .en-first
   gate-encl q up k = k .en-last
 
@@ -208,8 +207,8 @@ module _ (τ : Tree) (w : Wf τ (prog τ)) where
 
   pub enter-sim : (g : ℕ) (d : Dir) (cs : List ℕ) (σ : Store) (q : ℕ) (d′ : Dir) → ProcOk P q → SimpleOk P (met g d)
       → (length cs < 64 → Sits P (leave (gateL P q d′) d′ (met g d ∷ cs)))
-      → perform τ (enters q d′) (spot g d cs (met g d)) σ ≡ seen P (through τ P (enter′ q d′) (met g d) d cs σ)
-  unfolding perform through seen
+      → does.enters τ (spot g d cs (met g d)) σ q d′ ≡ seen P (through τ P (enter′ q d′) (met g d) d cs σ)
+  unfolding through seen
   enter-sim g d cs σ q d′ k o f = rw (calls-stack g cs) (go′ (ltb (length cs) 64) refl)
     where
       go′ : (b : Bool) → ltb (length cs) 64 ≡ b

@@ -4,12 +4,14 @@ use mathlib.Core.Path.{_≡_, refl, ap, sym, _∙_}
 use mathlib.Core.List.{List, [], _∷_}
 use lib.ListN.{length, getD, length-append, List·getD-eq-default}
 use native.Mathlib.Omega.{arith}
-use Rattle.order.specs.Trees.{Block, Tree, procedures}
+use Rattle.records.specs.Records.{names, kind}
+use Rattle.order.specs.Trees.{Block, Tree, procedures, recordsOf}
 use Rattle.moves.proofs.Sizes.{sizeB}
 use Rattle.moves.specs.Stores.{holds}
-use Rattle.moves.proofs.Linked.{nameL, beginL, endL, Prog}
+use Rattle.moves.proofs.Linked.{Rec, nameL, beginL, endL, setL, skipL, ifL, elseL, fiL, fromL, loopL, untilL, callL, uncallL, Prog, forget}
 use Rattle.moves.proofs.Cuts.{Undoes, ProcOk, Local, Wf}
-use Rattle.moves.proofs.Rows.{beginFrom, endFrom, beginOf, endOf, Row, row, rowsB, lengthB, Holds, holds-left, holds-right, endB, rowsP, noRow, rowsOf, prog, plain-getD, plainP}
+use Rattle.moves.proofs.Rows.{beginFrom, endFrom, beginOf, endOf, Row, row, rowsB, lengthB, Holds, holds-left, holds-right, endB, rowsP, noRow, rowsOf, prog, each-getD, Plain, plainP}
+use Rattle.moves.proofs.Links.{at-is}
 use Rattle.moves.proofs.Locals.{FineB, either, Ctx, put, localB}
 
 pub holds-from : (P : Prog) (n : ℕ) (R : List Row) → ((i : ℕ) → P .at (n + i) ≡ (getD R i noRow) .rec) → ((i : ℕ) → P .encl (n + i) ≡ (getD R i noRow) .after)
@@ -158,6 +160,29 @@ fine-wf τ a = record {
       (λ k. put τ (prog τ) (λ q. ⊥) (λ q z. absurd z) x x (nameL 0 []) refl
       (ap (λ k. k .rec) (List·getD-eq-default (rowsOf τ) noRow {n = x} (omega (arith, lengthP (procedures τ) 0 1))))
       (λ q lo hi. let j = in-range (procedures τ) 1 q x lo hi in omega arith)));
-  plain = λ x. plain-getD (rowsOf τ) x (refl, plainP (procedures τ) 0 1);
+  plain = λ x. each-getD Plain (rowsOf τ) x refl (refl, plainP (procedures τ) 0 1);
   main-ok = proc-there τ 0 (omega arith);
 }
+
+-- ---- labels
+no-names : (τ : Tree) (P : Prog) (q x : ℕ) (ρ : Rec) → Local τ P ρ x → P .first q ≤ x → x ≤ P .last q → forget ρ ≡ names 0 [] → ⊥
+unfolding kind
+no-names τ P q x (nameL v ls) l lo hi e = l q lo hi
+no-names τ P q x (beginL p) l lo hi e = let k = ap kind e in omega arith
+no-names τ P q x (endL p) l lo hi e = let k = ap kind e in omega arith
+no-names τ P q x (setL o t ε) l lo hi e = let k = ap kind e in omega arith
+no-names τ P q x skipL l lo hi e = let k = ap kind e in omega arith
+no-names τ P q x (ifL c) l lo hi e = let k = ap kind e in omega arith
+no-names τ P q x (elseL c) l lo hi e = let k = ap kind e in omega arith
+no-names τ P q x (fiL c) l lo hi e = let k = ap kind e in omega arith
+no-names τ P q x (fromL c) l lo hi e = let k = ap kind e in omega arith
+no-names τ P q x (loopL c) l lo hi e = let k = ap kind e in omega arith
+no-names τ P q x (untilL c) l lo hi e = let k = ap kind e in omega arith
+no-names τ P q x (callL p) l lo hi e = let k = ap kind e in omega arith
+no-names τ P q x (uncallL p) l lo hi e = let k = ap kind e in omega arith
+
+-- A label inside a procedure is a record's.
+pub there : (τ : Tree) → Wf τ (prog τ) → (q x : ℕ) → prog τ .first q ≤ x → x ≤ prog τ .last q → x < length (recordsOf τ)
+there τ w q x lo hi =
+    either x (length (recordsOf τ)) (λ h. h)
+    (λ h. absurd (no-names τ (prog τ) q x (prog τ .at x) (w .here x) lo hi (sym (at-is τ x) ∙ List·getD-eq-default (recordsOf τ) (names 0 []) {n = x} h)))

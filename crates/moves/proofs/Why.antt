@@ -8,12 +8,12 @@ use lib.Dec.{ltb}
 use native.Mathlib.Omega.{arith}
 use borrow.Author.Tests.{ltb-false, le-ltb}
 use Rattle.order.specs.Trees.{Tree}
-use Rattle.moves.specs.Edges.{Frame, called}
-use Rattle.moves.specs.Places.{Dir, Place, calls, gate}
+use Rattle.moves.specs.Edges.{Frame}
+use Rattle.moves.specs.Places.{Dir, Place, head, calls}
 use Rattle.moves.specs.Stores.{Reason, atEnd, wrongValue, tooDeep, Answer, ok, no, bind, Store, holds, assigned}
-use Rattle.moves.specs.Step.{after, again, must}
+use Rattle.moves.specs.Step.{again, must, executes}
 use Rattle.moves.specs.Step as does
-use Rattle.moves.proofs.Acts.{Act, assigns, moves, chooses, closes, opens, tests, enters, returns, nothing, wanted, perform}
+use Rattle.moves.proofs.Acts.{Act, assigns, moves, chooses, closes, opens, tests, enters, enters-back, returns, nothing, wanted, perform}
 
 pub ok-no : {A X : Type 0} (a : A) (r : Reason) → _≡_ {A = Answer A} (ok a) (no r) → X
 ok-no a r e = absurd (let z : _≡_ {A = ℕ} 0 1 = cc in let y : ⊥ = omega arith in y)
@@ -21,17 +21,18 @@ ok-no a r e = absurd (let z : _≡_ {A = ℕ} 0 1 = cc in let y : ⊥ = omega ar
 pub no-no : {A : Type 0} {r r′ : Reason} → _≡_ {A = Answer A} (no r) (no r′) → r ≡ r′
 no-no e = cc
 
--- ---- by what the step executes
-abbrev pub Refuses : Tree → Act → Dir → List Frame → Store → Reason → Type 0
-Refuses τ (assigns o x e) d fs σ r = assigned τ o x e d σ ≡ no r
-Refuses τ moves d fs σ r = ⊥
-Refuses τ (chooses e h) d fs σ r = holds τ σ e ≡ no r
-Refuses τ (closes e) d fs σ r = (holds τ σ e ≡ no r) ⊎ ((holds τ σ e ≡ ok (not (wanted fs))) × (r ≡ wrongValue))
-Refuses τ (opens e h) d fs σ r = (holds τ σ e ≡ no r) ⊎ ((holds τ σ e ≡ ok (again h fs)) × (r ≡ wrongValue))
-Refuses τ (tests e) d fs σ r = holds τ σ e ≡ no r
-Refuses τ (enters q d′) d fs σ r = (64 ≤ calls fs) × (r ≡ tooDeep)
-Refuses τ returns d fs σ r = (fs ≡ []) × (r ≡ atEnd)
-Refuses τ nothing d fs σ r = ⊥
+-- ---- by what the step executes; `h` is the construct that is entered there
+abbrev pub Refuses : Tree → (h : ℕ) → Act → Dir → List Frame → Store → Reason → Type 0
+Refuses τ h (assigns o x e) d fs σ r = assigned τ o x e d σ ≡ no r
+Refuses τ h moves d fs σ r = ⊥
+Refuses τ h (chooses e) d fs σ r = holds τ σ e ≡ no r
+Refuses τ h (closes e) d fs σ r = (holds τ σ e ≡ no r) ⊎ ((holds τ σ e ≡ ok (not (wanted fs))) × (r ≡ wrongValue))
+Refuses τ h (opens e) d fs σ r = (holds τ σ e ≡ no r) ⊎ ((holds τ σ e ≡ ok (again h fs)) × (r ≡ wrongValue))
+Refuses τ h (tests e) d fs σ r = holds τ σ e ≡ no r
+Refuses τ h (enters q) d fs σ r = (64 ≤ calls fs) × (r ≡ tooDeep)
+Refuses τ h (enters-back q) d fs σ r = (64 ≤ calls fs) × (r ≡ tooDeep)
+Refuses τ h returns d fs σ r = (fs ≡ []) × (r ≡ atEnd)
+Refuses τ h nothing d fs σ r = ⊥
 
 bind-no : {A B : Type 0} (a : Answer A) (k : A → B) (r : Reason) → bind a (λ v. ok (k v)) ≡ no r ↔ a ≡ no r
 unfolding bind
@@ -57,24 +58,26 @@ open-no (ok false) true x y r = (λ e. ok-no x r e, ⊎-elim (λ e. ok-no false 
 open-no (ok false) false x y r = (λ e. inr (refl, cc), ⊎-elim (λ e. ok-no false r e) (λ e. let h = e .1 in cc))
 open-no (no m) k x y r = (λ e. inl (cc), ⊎-elim (λ e. cc) (λ e. ok-no k m (sym (e .0))))
 
-deep-no : {A : Type 0} (b : Bool) (x : A) (r : Reason) → cond b (ok x) (no tooDeep) ≡ no r ↔ (b ≡ false) × (r ≡ tooDeep)
-deep-no true x r = (λ e. ok-no x r e, λ h. let k = h .0 in cc)
-deep-no false x r = (λ e. (refl, cc), λ h. let k = h .1 in cc)
+deep-no : {A : Type 0} (fs : List Frame) (x : A) (r : Reason) → cond (ltb (calls fs) 64) (ok x) (no tooDeep) ≡ no r ↔ (64 ≤ calls fs) × (r ≡ tooDeep)
+deep-no fs x r = (λ e. go (ltb (calls fs) 64) refl e, λ h. rw (le-ltb (calls fs) 64 (h .0)) (let k = h .1 in cc))
+  where
+    go : (b : Bool) → ltb (calls fs) 64 ≡ b → cond b (ok x) (no tooDeep) ≡ no r → (64 ≤ calls fs) × (r ≡ tooDeep)
+    go true h e = ok-no x r e
+    go false h e = (ltb-false (calls fs) 64 h, cc)
 
 return-no : (τ : Tree) (p : Place) (fs : List Frame) (σ : Store) (r : Reason) → does.returns τ p σ fs ≡ no r ↔ (fs ≡ []) × (r ≡ atEnd)
 return-no τ p [] σ r = (λ e. (refl, cc), λ h. let k = h .1 in cc)
 return-no τ p (f ∷ F) σ r = (λ e. ok-no _ r e, λ h. let k = h .0 in cc)
 
-pub perform-no : (τ : Tree) (α : Act) (p : Place) (σ : Store) (r : Reason) → perform τ α p σ ≡ no r ↔ Refuses τ α (p .d) (p .frames) σ r
-unfolding perform
+pub perform-no : (τ : Tree) (α : Act) (p : Place) (σ : Store) (r : Reason) → perform τ α p σ ≡ no r ↔ Refuses τ (head τ (p .b) (p .d)) α (p .d) (p .frames) σ r
+unfolding perform executes
 perform-no τ (assigns o x e) p σ r = bind-no (assigned τ o x e (p .d) σ) _ r
 perform-no τ moves p σ r = (λ e. ok-no _ r e, λ h. absurd h)
-perform-no τ (chooses e h) p σ r = bind-no (holds τ σ e) _ r
+perform-no τ (chooses e) p σ r = bind-no (holds τ σ e) _ r
 perform-no τ (closes e) p σ r = must-no (holds τ σ e) (wanted (p .frames)) _ r
-perform-no τ (opens e h) p σ r = open-no (holds τ σ e) (again h (p .frames)) _ _ r
+perform-no τ (opens e) p σ r = open-no (holds τ σ e) (again (head τ (p .b) (p .d)) (p .frames)) _ _ r
 perform-no τ (tests e) p σ r = bind-no (holds τ σ e) _ r
-perform-no τ (enters q d) p σ r =
-    let k = deep-no {A = Place × Store} (ltb (calls (p .frames)) 64) (after τ (gate τ q d) d (called (p .b) ∷ p .frames), σ) r in
-    (λ e. let h = k .0 e in (ltb-false _ _ (h .0), h .1), λ h. k .1 (le-ltb _ _ (h .0), h .1))
+perform-no τ (enters q) p σ r = deep-no (p .frames) _ r
+perform-no τ (enters-back q) p σ r = deep-no (p .frames) _ r
 perform-no τ returns p σ r = return-no τ p (p .frames) σ r
 perform-no τ nothing p σ r = (λ e. ok-no _ r e, λ h. absurd h)

@@ -1,3 +1,4 @@
+-- The definitions of `moves`, the rules of document 01.
 pub mod Labels
 pub mod Edges
 pub mod Places

@@ -37,18 +37,18 @@ pub data Faults (t : Tree) (σ : Store) (ρ : Record) (f : Fault) : Type 0 where
   in-entry : {o a : ℕ} {i e : Expr} {v : ℤ} → ρ ≡ assign o (entry a i) e → eval (layout t) σ (read a i) ≡ value v → Stops t σ e f → Faults t σ ρ f
 
 -- An expression's value is true, or false.
-abbrev pub Gives : Tree → Store → Expr → Bool → Type 0
-Gives t σ e b = (v : ℤ) × (eval (layout t) σ e ≡ value v) × (isTrue v ≡ b)
+abbrev pub Truth : Tree → Store → Expr → Bool → Type 0
+Truth t σ e b = (v : ℤ) × (eval (layout t) σ e ≡ value v) × (isTrue v ≡ b)
 
 -- The condition of each reason, of the record ρ that is met in direction d with the frames fs; `h` is the construct that is entered there.
 pub data Meets (t : Tree) (σ : Store) (h : ℕ) (fs : List Frame) (ρ : Record) (d : Dir) : Reason → Type 0 where
   -- 30: "END down or BEGIN up of main, no call left" (where a place fits and no call is left, the record lies in main)
   ends : ρ ≡ going d end begin → calls fs ≡ 0 → Meets t σ h fs ρ d atEnd
   -- 31: "a closing or opening value is the wrong one": branch 0 closes by true, 1 by false; one opens by true from outside, by false from s2.
-  then-false : (e : Expr) {l : ℕ} {F : List Frame} → ρ ≡ going d (fi e) (if e) → fs ≡ inThen l ∷ F → Gives t σ e false → Meets t σ h fs ρ d wrongValue
-  else-true : (e : Expr) {l : ℕ} {F : List Frame} → ρ ≡ going d (fi e) (if e) → fs ≡ inElse l ∷ F → Gives t σ e true → Meets t σ h fs ρ d wrongValue
-  outside-false : (e : Expr) → ρ ≡ going d (from e) (until e) → ((F : List Frame) → fs ≡ inLoop h ∷ F → ⊥) → Gives t σ e false → Meets t σ h fs ρ d wrongValue
-  again-true : (e : Expr) {F : List Frame} → ρ ≡ going d (from e) (until e) → fs ≡ inLoop h ∷ F → Gives t σ e true → Meets t σ h fs ρ d wrongValue
+  then-false : (e : Expr) {l : ℕ} {F : List Frame} → ρ ≡ going d (fi e) (if e) → fs ≡ inThen l ∷ F → Truth t σ e false → Meets t σ h fs ρ d wrongValue
+  else-true : (e : Expr) {l : ℕ} {F : List Frame} → ρ ≡ going d (fi e) (if e) → fs ≡ inElse l ∷ F → Truth t σ e true → Meets t σ h fs ρ d wrongValue
+  outside-false : (e : Expr) → ρ ≡ going d (from e) (until e) → ((F : List Frame) → fs ≡ inLoop h ∷ F → ⊥) → Truth t σ e false → Meets t σ h fs ρ d wrongValue
+  again-true : (e : Expr) {F : List Frame} → ρ ≡ going d (from e) (until e) → fs ≡ inLoop h ∷ F → Truth t σ e true → Meets t σ h fs ρ d wrongValue
   by-zero : Faults t σ ρ byZero → Meets t σ h fs ρ d zeroDivisor
   no-entry : Faults t σ ρ outside → Meets t σ h fs ρ d badIndex
   -- 34: "a 65th call"

@@ -1,25 +1,16 @@
 -- The loop of a pass: what is left of the records gives the answer of the whole.
-use mathlib.Core.Path.{_≡_, refl, sym, _∙_}
-use mathlib.Core.List.{List, [], _∷_}
+use mathlib.Core.Path.{_≡_, sym, _∙_}
+use mathlib.Core.List.{List}
 use mathlib.Core.Bool.{Bool, true, false, cond}
-use Prim.Native.Nat.{ℕ, zero, suc, _+_, _-_, _≤_, _<_}
+use Prim.Native.Nat.{ℕ, suc, _+_, _-_, _≤_, _<_}
 use native.Mathlib.Numerals.{add-one}
 use native.Mathlib.Omega.{arith}
 use lib.ListN.{length}
-use borrow.Author.Tests.{lt-ltb, le-ltb}
 use Rattle.records.specs.Walk.{stride, offsetsFrom, offsets}
+use Rattle.records.proofs.Offsets.{offsets-past, offsets-more}
 use Rattle.names.specs.Names.{firstFrom, firstNot}
 use Rattle.names.specs.declared.First.{First}
 use Rattle.names.specs.declared.First.the-variants.{Nowhere, At}
-
-pub offsets-end : (n : ℕ) (f : List ℕ) (at : ℕ) → length f ≤ at → offsetsFrom n f at ≡ []
-unfolding offsetsFrom
-offsets-end zero f at h = refl
-offsets-end (suc n) f at h = rw (le-ltb at (length f) h)
-
-pub offsets-more : (n : ℕ) (f : List ℕ) (at : ℕ) → at < length f → offsetsFrom (suc n) f at ≡ at ∷ offsetsFrom n f (at + stride f at)
-unfolding offsetsFrom
-offsets-more n f at h = rw (lt-ltb at (length f) h)
 
 module _ (test : ℕ → Bool) (f : List ℕ) where
   -- what is left after k records, the next one at `at`
@@ -29,7 +20,7 @@ module _ (test : ℕ → Bool) (f : List ℕ) where
   module _ (at k : ℕ) (i : firstNot test (offsets f) ≡ left at k) where
     pub left-none : length f ≤ at → Nowhere ≡ firstNot test (offsets f)
     unfolding firstFrom
-    left-none h = sym (i ∙ rw (offsets-end (length f - k) f at h))
+    left-none h = sym (i ∙ rw (offsets-past (length f - k) f at h))
 
     module _ (h : at < length f) (u : k ≤ at) where
       one : left at k ≡ cond (test at) (firstFrom test (suc k) (offsetsFrom (length f - (k + 1)) f (at + stride f at))) (At k)

@@ -2,7 +2,7 @@
 use Prim.Native.Nat.{ℕ, zero, suc, _+_, _-_, _≤_, _<_}
 use mathlib.Core.Path.{_≡_, refl, ap, ap₂, _∙_}
 use mathlib.Core.List.{List, [], _∷_}
-use mathlib.Core.Bool.{Bool, true, false, _||_}
+use mathlib.Core.Bool.{Bool, true, false, _&&_, _||_}
 use mathlib.Core.Logic.{_⊎_, inl, inr}
 use native.Mathlib.Omega.{arith}
 use native.Mathlib.Numerals.{add-one}
@@ -10,7 +10,7 @@ use borrow.Author.Tests.{lt-ltb, le-ltb, eq-eqb, ne-eqb, eqb-false}
 use lib.Dec.{eqb}
 use lib.ListN.{length, getD, set}
 use lib.Seq.{getD-set-same, getD-set-other}
-use Rattle.order.specs.Order.{State, at, named, begun, ended, passed, opened, turned, closed, next}
+use Rattle.order.specs.Order.{State, at, is, innermost, onlyIf, named, begun, ended, passed, opened, turned, closed, next}
 use Rattle.order.specs.Stack.{stack, stateOf, Keeps}
 use Rattle.order.specs.declared.Open.{Open}
 
@@ -97,25 +97,20 @@ module _ (o r : Open) where
     pub opened-full : 3 ≤ o .phase → o .phase ≤ 4 → 16 ≤ o .count → Keeps r (at 5 []) → Keeps r (opened f (stateOf o))
     opened-full p q h k = rw (inside-yes (o .phase) p q, length-stack (o .kinds) (o .count), le-ltb (o .count) 16 h) k
 
-    pub turned-out : (o .phase ≡ 4 → ⊥) → Keeps r (at 5 []) → Keeps r (turned f (stateOf o))
-    turned-out p k = rw (ne-eqb (o .phase) 4 p) k
+    -- ELSE, LOOP, FI and UNTIL come where a statement has come, and their own construct is the innermost; s is the state then.
+    module _ (s : State) where
+      abbrev met : State
+      met = onlyIf (is (stateOf o) 4 && eqb (innermost (stack (o .kinds) (o .count))) f) s
 
-    pub turned-none : o .phase ≡ 4 → f < 4 → o .count ≡ 0 → Keeps r (at 5 []) → Keeps r (turned f (stateOf o))
-    unfolding stack
-    turned-none p h q k = rw (p, q, ne-eqb 4 f (λ e. omega arith)) k
+      pub met-out : (o .phase ≡ 4 → ⊥) → Keeps r (at 5 []) → Keeps r met
+      met-out p k = rw (ne-eqb (o .phase) 4 p) k
 
-    pub turned-other : o .phase ≡ 4 → (o .count ≡ 0 → ⊥) → (getD (o .kinds) (o .count - 1) 0 ≡ f → ⊥) → Keeps r (at 5 []) → Keeps r (turned f (stateOf o))
-    turned-other p h q k = rw (p, stack-top (o .kinds) (o .count) (omega arith), ne-eqb (getD (o .kinds) (o .count - 1) 0) f q) k
+      pub met-none : o .phase ≡ 4 → f < 4 → o .count ≡ 0 → Keeps r (at 5 []) → Keeps r met
+      unfolding stack
+      met-none p h q k = rw (p, q, ne-eqb 4 f (λ e. omega arith)) k
 
-    pub closed-out : (o .phase ≡ 4 → ⊥) → Keeps r (at 5 []) → Keeps r (closed f (stateOf o))
-    closed-out p k = rw (ne-eqb (o .phase) 4 p) k
-
-    pub closed-none : o .phase ≡ 4 → f < 4 → o .count ≡ 0 → Keeps r (at 5 []) → Keeps r (closed f (stateOf o))
-    unfolding stack
-    closed-none p h q k = rw (p, q, ne-eqb 4 f (λ e. omega arith)) k
-
-    pub closed-other : o .phase ≡ 4 → (o .count ≡ 0 → ⊥) → (getD (o .kinds) (o .count - 1) 0 ≡ f → ⊥) → Keeps r (at 5 []) → Keeps r (closed f (stateOf o))
-    closed-other p h q k = rw (p, stack-top (o .kinds) (o .count) (omega arith), ne-eqb (getD (o .kinds) (o .count - 1) 0) f q) k
+      pub met-other : o .phase ≡ 4 → (o .count ≡ 0 → ⊥) → (getD (o .kinds) (o .count - 1) 0 ≡ f → ⊥) → Keeps r (at 5 []) → Keeps r met
+      met-other p h q k = rw (p, stack-top (o .kinds) (o .count) (omega arith), ne-eqb (getD (o .kinds) (o .count - 1) 0) f q) k
 
 module _ (o : Open) where
   pub passed-yes : 3 ≤ o .phase → o .phase ≤ 4 → o .count ≤ 16 → Keeps (kept (o .kinds) (o .count) 4) (passed (stateOf o))
@@ -152,72 +147,20 @@ pub ruleset keeping = (
   opened-high,
   opened-full,
   opened-yes,
-  turned-out,
-  turned-none,
-  turned-other,
+  met-out,
+  met-none,
+  met-other,
   turned-yes,
-  closed-out,
-  closed-none,
-  closed-other,
   closed-yes,
 )
 
 -- ---- Each kind has its function.
 module _ (r : Open) (s : State) (k : ℕ) where
-  pub on-1 : k ≡ 1 → Keeps r (named s) → Keeps r (next s k)
-  unfolding next
-  on-1 p h = rw p h
-
-  pub on-2 : k ≡ 2 → Keeps r (begun s) → Keeps r (next s k)
-  unfolding next
-  on-2 p h = rw p h
-
-  pub on-3 : k ≡ 3 → Keeps r (ended s) → Keeps r (next s k)
-  unfolding next
-  on-3 p h = rw p h
-
-  pub on-4 : k ≡ 4 → Keeps r (passed s) → Keeps r (next s k)
-  unfolding next
-  on-4 p h = rw p h
-
-  pub on-5 : k ≡ 5 → Keeps r (opened 0 s) → Keeps r (next s k)
-  unfolding next
-  on-5 p h = rw p h
-
-  pub on-6 : k ≡ 6 → Keeps r (turned 0 s) → Keeps r (next s k)
-  unfolding next
-  on-6 p h = rw p h
-
-  pub on-7 : k ≡ 7 → Keeps r (closed 1 s) → Keeps r (next s k)
-  unfolding next
-  on-7 p h = rw p h
-
-  pub on-8 : k ≡ 8 → Keeps r (opened 2 s) → Keeps r (next s k)
-  unfolding next
-  on-8 p h = rw p h
-
-  pub on-9 : k ≡ 9 → Keeps r (turned 2 s) → Keeps r (next s k)
-  unfolding next
-  on-9 p h = rw p h
-
-  pub on-10 : k ≡ 10 → Keeps r (closed 3 s) → Keeps r (next s k)
-  unfolding next
-  on-10 p h = rw p h
-
-  pub on-11 : k ≡ 11 → Keeps r (passed s) → Keeps r (next s k)
-  unfolding next
-  on-11 p h = rw p h
-
-  pub on-12 : k ≡ 12 → Keeps r (passed s) → Keeps r (next s k)
-  unfolding next
-  on-12 p h = rw p h
-
-  pub on-13 : k ≡ 13 → Keeps r (passed s) → Keeps r (next s k)
-  unfolding next
-  on-13 p h = rw p h
+  pub on-kind : (j : ℕ) → k ≡ j → Keeps r (next s j) → Keeps r (next s k)
+  on-kind j p h = rw p h
 
   pub on-none : (k ≡ 1 → ⊥) → (k ≡ 2 → ⊥) → (k ≡ 3 → ⊥) → (k ≡ 5 → ⊥) → (k ≡ 6 → ⊥) → (k ≡ 7 → ⊥) → (k ≡ 8 → ⊥) → (k ≡ 9 → ⊥) → (k ≡ 10 → ⊥) → (k ≡ 4 → ⊥) → (k ≡ 11 → ⊥) → (k ≡ 12 → ⊥) → (k ≡ 13 → ⊥) → Keeps r (at 5 []) → Keeps r (next s k)
   unfolding next
   on-none p1 p2 p3 p5 p6 p7 p8 p9 p10 p4 p11 p12 p13 h = rw (ne-eqb k 1 p1, ne-eqb k 2 p2, ne-eqb k 3 p3, ne-eqb k 5 p5, ne-eqb k 6 p6, ne-eqb k 7 p7, ne-eqb k 8 p8, ne-eqb k 9 p9, ne-eqb k 10 p10, ne-eqb k 4 p4, ne-eqb k 11 p11, ne-eqb k 12 p12, ne-eqb k 13 p13) h
 
-pub ruleset kinds = (on-1, on-2, on-3, on-4, on-5, on-6, on-7, on-8, on-9, on-10, on-11, on-12, on-13, on-none)
+pub ruleset kinds = (on-kind, on-none)

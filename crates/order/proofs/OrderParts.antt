@@ -12,7 +12,7 @@ use lib.Dec.{ltb}
 use Rattle.expr.specs.Tree.{Expr}
 use Rattle.records.specs.Records.{Record, names, begin, end, assign, if, else, fi, from, loop, until, call, uncall, skip, kind}
 use Rattle.order.specs.Trees.{Stmt, setS, skipS, callS, uncallS, ifS, fromS, Block, one, _then_}
-use Rattle.order.specs.Order.{State, at, next, kinds, named, begun, ended, passed, opened, turned, closed}
+use Rattle.order.specs.Order.{State, at, next, named, begun, ended, passed, opened, turned, closed}
 
 -- ---- The two constructs as one: false is IF, true is FROM.
 abbrev pub opener : Bool → Expr → Record
@@ -262,15 +262,6 @@ shape-grow p (until e) = shape-close true e p
 shape-grow p (call q) = shape-plain (callS q) p
 shape-grow p (uncall q) = shape-plain (uncallS q) p
 shape-grow p skip = shape-plain skipS p
-
-unfoldable pub run : State → List ℕ → State
-run s [] = s
-run s (k ∷ ks) = run (next s k) ks
-
-pub shape-reads : (rs : List Record) (p : Part) → shape (reads p rs) ≡ run (shape p) (kinds rs)
-unfolding reads run
-shape-reads [] p = refl
-shape-reads (r ∷ rs) p = shape-reads rs (grow p r) ∙ ap (λ s. run s (kinds rs)) (shape-grow p r)
 
 -- ---- Reading on: what is dead stays dead.
 pub grow-dead : (r : Record) → grow dead r ≡ dead

@@ -1,35 +1,22 @@
 -- The loop over a file's records: what is left to be asked, record by record. Assumes nothing.
-use Prim.Native.Nat.{ℕ, zero, suc, _+_, _-_, _≤_, _<_, min}
-use mathlib.Core.Path.{_≡_, refl, ap, sym, _∙_}
+use Prim.Native.Nat.{ℕ, suc, _+_, _-_, _≤_, _<_, min}
+use mathlib.Core.Path.{_≡_, ap, sym, _∙_}
 use mathlib.Core.List.{List, [], _∷_}
-use mathlib.Core.Logic.{_⊎_, ⊎-elim}
 use native.Mathlib.Omega.{arith}
 use native.Mathlib.Numerals.{add-one}
-use borrow.Author.Tests.{lt-ltb, le-ltb, ne-eqb}
+use borrow.Author.Tests.{ne-eqb}
 use lib.ListN.{length}
 use Rattle.records.specs.Walk.{stride, kindAt, offsets, offsetsFrom, kindsAt}
+use Rattle.records.proofs.Offsets.{offsets-past, offsets-capped}
 use Rattle.order.specs.Order.{at, next, orderFrom, orderOf}
 use Rattle.order.specs.Stack.{stack, stateOf, Keeps}
 use Rattle.order.specs.declared.Open.{Open}
 use Rattle.order.specs.declared.Placed.{Placed}
 use Rattle.order.specs.declared.Placed.the-variants.{InOrder, Misplaced}
-use Rattle.order.proofs.OrderReads.{le-or-lt}
-
--- ---- The walk.
-past : (m : ℕ) (f : List ℕ) (i : ℕ) → length f ≤ i → offsetsFrom m f i ≡ []
-unfolding offsetsFrom
-past zero f i h = refl
-past (suc m) f i h = rw (le-ltb i (length f) h)
-
-capped : (m : ℕ) (f : List ℕ) (i : ℕ) → offsetsFrom m f (min (length f) i) ≡ offsetsFrom m f i
-capped m f i = ⊎-elim
-    (λ h. past m f (min (length f) i) (omega arith) ∙ sym (past m f i h))
-    (λ h. ap (λ j. offsetsFrom m f j) (omega arith))
-    (le-or-lt (length f) i)
 
 onward : (m : ℕ) (f : List ℕ) (i : ℕ) → i < length f → kindsAt f (offsetsFrom (suc m) f i) ≡ kindAt f i ∷ kindsAt f (offsetsFrom m f (min (length f) (i + stride f i)))
-unfolding offsetsFrom kindsAt
-onward m f i h = rw (lt-ltb i (length f) h) (ap (λ os. kindAt f i ∷ kindsAt f os) (sym (capped m f (i + stride f i))))
+unfolding kindsAt
+onward m f i h = ap (kindsAt f) (offsets-capped m f i h)
 
 -- ---- What is left, n records before the position i, where o keeps the state.
 abbrev pub Left : List ℕ → ℕ → ℕ → Open → Placed
@@ -58,8 +45,8 @@ module _ (f : List ℕ) (n i : ℕ) (o : Open) where
 
   pub left-whole : length f ≤ i → o .phase ≡ 2 → Left f n i o ≡ InOrder
   unfolding orderFrom kindsAt
-  left-whole h p = rw (past (length f - n) f i h, p)
+  left-whole h p = rw (offsets-past (length f - n) f i h, p)
 
   pub left-short : length f ≤ i → (o .phase ≡ 2 → ⊥) → Left f n i o ≡ Misplaced n
   unfolding orderFrom kindsAt
-  left-short h p = rw (past (length f - n) f i h, ne-eqb (o .phase) 2 p)
+  left-short h p = rw (offsets-past (length f - n) f i h, ne-eqb (o .phase) 2 p)

@@ -1,3 +1,4 @@
+-- The definitions of `order`.
 pub mod Trees
 pub mod Order
 pub mod Stack

@@ -1,16 +1,16 @@
 -- The answers of the check, case by case: what each `return` knows gives what the definition says.
 use mathlib.Core.Path.{_≡_}
 use mathlib.Core.List.{List}
-use mathlib.Core.Bool.{true, false}
+use mathlib.Core.Bool.{Bool, true, false}
 use Prim.Native.Nat.{ℕ, _≤_, _<_}
 use lib.ListN.{length}
 use borrow.Author.Tests.{lt-ltb, le-ltb}
 use Rattle.records.specs.Faults.{word}
+use Rattle.names.specs.Names.{passes, firstNot}
 use Rattle.records.specs.Walk.{offsets, kindsAt}
 use Rattle.records.specs.Reading.{walkOf}
 use Rattle.order.specs.Order.{orderOf}
-use Rattle.names.specs.Names.{passes, firstNot}
-use Rattle.program.specs.Check.{cellsOf, afterOwn, afterThere, afterOrder, afterWalk, checkOf}
+use Rattle.program.specs.Check.{cellsOf, named, afterOwn, afterThere, afterOrder, afterWalk, checkOf}
 use Rattle.records.specs.declared.Walked.{Walked}
 use Rattle.records.specs.declared.Walked.the-variants.{Fine, Faulty}
 use Rattle.order.specs.declared.Placed.{Placed}
@@ -21,6 +21,9 @@ use Rattle.program.specs.declared.Checked.{Checked}
 use Rattle.program.specs.declared.Checked.the-variants.{Accepted, Refused}
 
 module _ (f : List ℕ) where
+  pub named-is : (own : Bool) (p : ℕ) (first : First) (v n : ℕ) → first ≡ firstNot (passes own f v n p) (offsets f) → v ≡ word f 4 → n ≡ word f 6 → first ≡ named own f p
+  named-is own p first v n e x y = rw (e, x, y)
+
   module _ (r p : ℕ) where
     module _ (first : First) where
       pub own-at : (k : ℕ) → first ≡ At k → Refused 8 k ≡ afterOwn f r p first
@@ -32,17 +35,15 @@ module _ (f : List ℕ) where
       pub there-at : (k : ℕ) → first ≡ At k → Refused 7 k ≡ afterThere f r p first
       there-at k e = rw e
 
-      pub there-nowhere : (own : First) (a : Checked) (v n : ℕ) → first ≡ Nowhere → a ≡ afterOwn f r p own
-          → own ≡ firstNot (passes true f v n p) (offsets f) → v ≡ word f 4 → n ≡ word f 6 → a ≡ afterThere f r p first
-      there-nowhere own a v n e q d x y = rw (e, q, d)
+      pub there-nowhere : (own : First) (a : Checked) → first ≡ Nowhere → a ≡ afterOwn f r p own → own ≡ named true f p → a ≡ afterThere f r p first
+      there-nowhere own a e q d = rw (e, q, d)
 
     module _ (placed : Placed) where
       pub order-at : (k : ℕ) → placed ≡ Misplaced k → Refused 6 k ≡ afterOrder f r p placed
       order-at k e = rw e
 
-      pub order-right : (first : First) (a : Checked) (v n : ℕ) → placed ≡ InOrder → a ≡ afterThere f r p first
-          → first ≡ firstNot (passes false f v n p) (offsets f) → v ≡ word f 4 → n ≡ word f 6 → a ≡ afterOrder f r p placed
-      order-right first a v n e q d x y = rw (e, q, d, x, y)
+      pub order-right : (first : First) (a : Checked) → placed ≡ InOrder → a ≡ afterThere f r p first → first ≡ named false f p → a ≡ afterOrder f r p placed
+      order-right first a e q d = rw (e, q, d)
 
   module _ (w : Walked) where
     pub walk-at : (n k : ℕ) → w ≡ Faulty n k → Refused n k ≡ afterWalk f w

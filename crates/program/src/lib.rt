@@ -1,6 +1,6 @@
 // Program files: the check that answers every file, and the table of its arrays.
 ghost use mathlib.Core.Path.{_≡_};
-ghost use Rattle.program.specs.Check.{cellsOf, afterOwn, afterThere, afterOrder, afterWalk};
+ghost use Rattle.program.specs.Check.{cellsOf, named, afterOwn, afterThere, afterOrder, afterWalk};
 ghost use Rattle.program.specs.Says.{given, Says};
 use names::First;
 use names::first_not;
@@ -29,6 +29,15 @@ fn cells(file: &[u8]) -> usize
     total
 }
 
+// The first record that 8 is about, or 7.
+fn first_named(own: bool, file: &[u8], procedures: usize) -> First
+    ensures { λ r. ⌜ r ≡ named own (now (file .entry)) procedures ⌝ }
+{
+    let scalars = codes::short(file, 4);
+    let arrays = codes::short(file, 6);
+    first_not(own, file, scalars, arrays, procedures)
+}
+
 // What is answered once 8 is asked.
 fn after_own(file: &[u8], records: usize, procedures: usize, first: First) -> Checked
     ensures { λ r. ⌜ r ≡ afterOwn (now (file .entry)) records procedures first ⌝ }
@@ -45,12 +54,12 @@ fn after_there(file: &[u8], records: usize, procedures: usize, first: First) -> 
 {
     match first {
         First::At(k) => Checked::Refused(7, k),
-        First::Nowhere => {
-            let scalars = codes::short(file, 4);
-            let arrays = codes::short(file, 6);
-            let own = first_not(true, file, scalars, arrays, procedures);
-            after_own(file, records, procedures, own)
-        }
+        First::Nowhere => after_own(
+            file,
+            records,
+            procedures,
+            first_named(true, file, procedures),
+        ),
     }
 }
 
@@ -60,12 +69,12 @@ fn after_order(file: &[u8], records: usize, procedures: usize, placed: Placed) -
 {
     match placed {
         Placed::Misplaced(k) => Checked::Refused(6, k),
-        Placed::InOrder => {
-            let scalars = codes::short(file, 4);
-            let arrays = codes::short(file, 6);
-            let there = first_not(false, file, scalars, arrays, procedures);
-            after_there(file, records, procedures, there)
-        }
+        Placed::InOrder => after_there(
+            file,
+            records,
+            procedures,
+            first_named(false, file, procedures),
+        ),
     }
 }
 

@@ -179,10 +179,6 @@ encode-unique r r′ x y h h′ s s′ e =
     let f = encodeRecord r ++ x in
     (sym (read-back f 0 r x h s refl) ∙ read-back f 0 r′ y h′ s′ e, sym (next-is f 0 r x s refl) ∙ next-is f 0 r′ y s′ e)
 
-pub starts-unique : (f : List ℕ) (at : ℕ) (r r′ : Record) → AllBytes f → Formed r → Formed r′ → Starts (drop at f) r → Starts (drop at f) r′ → r ≡ r′
-starts-unique f at r r′ B h h′ s s′ =
-    sym (read-back f at r _ h (starts-short f at r B s) (starts-front f at r s)) ∙ read-back f at r′ _ h′ (starts-short f at r′ B s′) (starts-front f at r′ s′)
-
 -- ---- 0: a formed record within the sizes
 pub record Good (f : List ℕ) (at k b : ℕ) (r : Record) : Type 0 where
   pub formed : Formed r

@@ -8,6 +8,5 @@ pub mod Sizes
 pub mod Asked
 pub mod Walking
 pub mod Cases
-pub mod Records
 pub mod Turns
 pub mod Determined

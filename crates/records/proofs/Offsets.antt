@@ -1,14 +1,17 @@
 -- The walk over a row of records finds where each record starts and of which kind it is: framing alone, whatever the bodies.
+--     offsets-past, offsets-more, offsets-capped     of any file, position by position
 --     offsets-of     one offset for each record
 --     record-at      at the offset of record k stands record k, then the others
 --     kinds-of       the kinds at the offsets are the records' kinds
 use mathlib.Core.Path.{_≡_, refl, sym, ap, _∙_}
 use mathlib.Core.List.{List, [], _∷_, _++_, map}
-use Prim.Native.Nat.{ℕ, zero, suc, _+_, _-_, _^_, _≤_, _<_}
+use Prim.Native.Nat.{ℕ, zero, suc, _+_, _-_, _^_, _≤_, _<_, min}
 use native.Mathlib.Omega.{arith}
-use borrow.Author.Tests.{lt-ltb, le-ltb}
+use borrow.Author.Tests.{lt-ltb, le-ltb, ltb-true, ltb-false}
 use lib.ListN.{length, drop, getD, length-append, length-drop}
 use lib.Seq.{drop-cons}
+use lib.Dec.{ltb}
+use mathlib.Core.Bool.{Bool, true, false}
 use Rattle.records.specs.Records.{Record, names, begin, end, assign, if, else, fi, from, loop, until, call, uncall, skip, kind, body, encodeRecord, bytesOf}
 use Rattle.records.specs.Faults.{word}
 use Rattle.records.specs.Walk.{stride, kindAt, offsets, offsetsFrom, kindsAt}
@@ -16,30 +19,42 @@ use Rattle.codes.proofs.Rows.{short-back}
 use Rattle.records.proofs.Bytes.{front-rest, after, room}
 
 -- ---- any file: the offsets from a position on
-more : (n m : ℕ) (f : List ℕ) (at : ℕ) → length f ≤ at + n → length f ≤ at + m → offsetsFrom n f at ≡ offsetsFrom m f at
+pub offsets-past : (m : ℕ) (f : List ℕ) (at : ℕ) → length f ≤ at → offsetsFrom m f at ≡ []
 unfolding offsetsFrom
-more zero zero f at h k = refl
-more zero (suc m) f at h k = rw (le-ltb at (length f) (omega arith))
-more (suc n) zero f at h k = rw (le-ltb at (length f) (omega arith))
-more (suc n) (suc m) f at h k = rw (more n m f (at + stride f at) (omega arith) (omega arith))
+offsets-past zero f at h = refl
+offsets-past (suc m) f at h = rw (le-ltb at (length f) h)
 
-abbrev pub offsetsAt : List ℕ → ℕ → List ℕ
+pub offsets-more : (m : ℕ) (f : List ℕ) (at : ℕ) → at < length f → offsetsFrom (suc m) f at ≡ at ∷ offsetsFrom m f (at + stride f at)
+unfolding offsetsFrom
+offsets-more m f at h = rw (lt-ltb at (length f) h)
+
+-- The next position may as well stop at the end of the file, as the code's does.
+pub offsets-capped : (m : ℕ) (f : List ℕ) (at : ℕ) → at < length f → offsetsFrom (suc m) f at ≡ at ∷ offsetsFrom m f (min (length f) (at + stride f at))
+offsets-capped m f at h = offsets-more m f at h ∙ ap (_∷_ at) (go (at + stride f at) (ltb (at + stride f at) (length f)) refl)
+  where
+    go : (i : ℕ) (b : Bool) → ltb i (length f) ≡ b → offsetsFrom m f i ≡ offsetsFrom m f (min (length f) i)
+    go i true e = let k = ltb-true i (length f) e in ap (λ j. offsetsFrom m f j) (omega arith)
+    go i false e = let k = ltb-false i (length f) e in offsets-past m f i k ∙ sym (offsets-past m f (min (length f) i) (omega arith))
+
+-- As many turns as there are bytes are enough.
+same : (n m : ℕ) (f : List ℕ) (at : ℕ) → length f ≤ at + n → length f ≤ at + m → offsetsFrom n f at ≡ offsetsFrom m f at
+unfolding offsetsFrom
+same zero m f at h k = sym (offsets-past m f at (omega arith))
+same (suc n) zero f at h k = offsets-past (suc n) f at (omega arith)
+same (suc n) (suc m) f at h k = rw (same n m f (at + stride f at) (omega arith) (omega arith))
+
+abbrev offsetsAt : List ℕ → ℕ → List ℕ
 offsetsAt f at = offsetsFrom (length f - at) f at
 
 module _ (f : List ℕ) where
-  pub offsets-all : offsets f ≡ offsetsAt f 0
+  offsets-all : offsets f ≡ offsetsAt f 0
   unfolding offsets
-  offsets-all = more (length f) (length f - 0) f 0 (omega arith) (omega arith)
+  offsets-all = same (length f) (length f - 0) f 0 (omega arith) (omega arith)
 
-  pub offsets-end : (at : ℕ) → length f ≤ at → offsetsAt f at ≡ []
-  unfolding offsetsFrom
-  offsets-end at h = more (length f - at) 0 f at (omega arith) (omega arith)
-
-  pub offsets-step : (at : ℕ) → at < length f → offsetsAt f at ≡ at ∷ offsetsAt f (at + stride f at)
-  unfolding offsetsFrom
+  offsets-step : (at : ℕ) → at < length f → offsetsAt f at ≡ at ∷ offsetsAt f (at + stride f at)
   offsets-step at h =
-      more (length f - at) (suc (length f - at)) f at (omega arith) (omega arith)
-      ∙ rw (lt-ltb at (length f) h, more (length f - at) (length f - (at + stride f at)) f (at + stride f at) (omega arith) (omega arith))
+      same (length f - at) (suc (length f - at)) f at (omega arith) (omega arith)
+      ∙ (offsets-more (length f - at) f at h ∙ ap (_∷_ at) (same (length f - at) (length f - (at + stride f at)) f (at + stride f at) (omega arith) (omega arith)))
 
 -- ---- a row of records: where each starts
 unfoldable startsFrom : ℕ → List Record → List ℕ
@@ -92,7 +107,7 @@ module _ (f : List ℕ) (short : length f < 2 ^ 16) where
 
   starts-are : (rs : List Record) (at : ℕ) → drop at f ≡ bytesOf rs → offsetsAt f at ≡ startsFrom at rs
   unfolding bytesOf startsFrom
-  starts-are [] at D = offsets-end f at (omega (arith, simp length-drop at (ap length D)))
+  starts-are [] at D = offsets-past (length f - at) f at (omega (arith, simp length-drop at (ap length D)))
   starts-are (r ∷ rs) at D =
       let s = short-is at r _ D in
       let h : at < length f = omega (arith, room-is f at r _ s D, size-of r) in

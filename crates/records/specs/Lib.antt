@@ -1,3 +1,4 @@
+-- The definitions of `records`.
 pub mod Records
 pub mod Faults
 pub mod Walk

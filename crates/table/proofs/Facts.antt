@@ -1,8 +1,8 @@
 -- What the table's law asks of an accepted program: its records by label, its procedures in order, its sizes.
 use Prim.Native.Nat.{ℕ, zero, suc, _+_, _≤_, _<_}
 use mathlib.Core.Path.{_≡_, refl, ap, sym, _∙_}
-use mathlib.Core.List.{List, [], _∷_, _++_}
-use lib.ListN.{length, getD, List·getD-eq-default}
+use mathlib.Core.List.{List, [], _∷_}
+use lib.ListN.{length, List·getD-eq-default}
 use native.Mathlib.Omega.{arith}
 use Rattle.records.specs.Records.{Record, names, begin, end, assign, if, else, fi, from, loop, until, call, uncall, skip, kind, InSize, FineFrom, begins, isBegin}
 use Rattle.order.specs.Trees.{Stmt, setS, skipS, callS, uncallS, ifS, fromS, Block, one, _then_, Tree, procedures, recordsOf}
@@ -12,7 +12,7 @@ use Rattle.moves.proofs.Sizes.{sizeS, sizeB}
 use Rattle.moves.specs.Edges.{Frame, inThen, inElse, inDo, inLoop}
 use Rattle.moves.proofs.Linked.{Prog, forget}
 use Rattle.moves.proofs.Cuts.{ProcOk, Wf}
-use Rattle.moves.proofs.Rows.{beginFrom, endFrom, Row, around, rowsS, rowsB, rowsP, noRow, rowsOf, prog}
+use Rattle.moves.proofs.Rows.{beginFrom, endFrom, Row, Each, each-append, each-around, each-getD, rowsS, rowsB, rowsP, rowsOf, prog}
 use Rattle.moves.proofs.Whole.{proc-there}
 use Rattle.moves.proofs.Links.{at-is}
 use Rattle.moves.proofs.Accepted.{accepted-wf}
@@ -31,50 +31,34 @@ pub record Facts (t : Tree) (P : Prog) (n p : ℕ) : Type 0 where
   pub proc : (q : ℕ) → q < p → ProcOk P q
 
 -- ---- Rows of NAMES, BEGIN and END.
-abbrev Quiet : List Row → Type 0
-Quiet [] = Unit {0}
-Quiet (ρ ∷ R) = (kind (forget (ρ .rec)) < 4 → ρ .after ≡ []) × Quiet R
-
-quiet-append : (R S : List Row) → Quiet R → Quiet S → Quiet (R ++ S)
-quiet-append [] S a b = b
-quiet-append (ρ ∷ R) S a b = (a .0, quiet-append R S (a .1) b)
+abbrev Quiet : Row → Type 0
+Quiet ρ = kind (forget (ρ .rec)) < 4 → ρ .after ≡ []
 
 mutual
-  unfolding rowsS around kind
+  unfolding rowsS kind
 
-  quietS : (s : Stmt) (F : List Frame) (n : ℕ) → Quiet (rowsS s F n)
+  quietS : (s : Stmt) (F : List Frame) (n : ℕ) → Each Quiet (rowsS s F n)
   quietS (setS o t e) F n = (λ h. absurd (omega arith), tt)
   quietS skipS F n = (λ h. absurd (omega arith), tt)
   quietS (callS q) F n = (λ h. absurd (omega arith), tt)
   quietS (uncallS q) F n = (λ h. absurd (omega arith), tt)
-  quietS (ifS e s t e′) F n = (
-    λ h. absurd (omega arith),
-    quiet-append (rowsB s (inThen n ∷ F) (suc n)) _ (quietB s _ _)
-        (λ h. absurd (omega arith), quiet-append (rowsB t (inElse n ∷ F) (suc (suc n + sizeB s))) _ (quietB t _ _) (λ h. absurd (omega arith), tt)),
-  )
-  quietS (fromS e s t e′) F n = (
-    λ h. absurd (omega arith),
-    quiet-append (rowsB s (inDo n ∷ F) (suc n)) _ (quietB s _ _)
-        (λ h. absurd (omega arith), quiet-append (rowsB t (inLoop n ∷ F) (suc (suc n + sizeB s))) _ (quietB t _ _) (λ h. absurd (omega arith), tt)),
-  )
+  quietS (ifS e s t e′) F n =
+      each-around Quiet _ _ _ _ _ (λ h. absurd (omega arith)) (quietB s (inThen n ∷ F) _) (λ h. absurd (omega arith)) (quietB t (inElse n ∷ F) _) (λ h. absurd (omega arith))
+  quietS (fromS e s t e′) F n =
+      each-around Quiet _ _ _ _ _ (λ h. absurd (omega arith)) (quietB s (inDo n ∷ F) _) (λ h. absurd (omega arith)) (quietB t (inLoop n ∷ F) _) (λ h. absurd (omega arith))
 
-  quietB : (b : Block) (F : List Frame) (n : ℕ) → Quiet (rowsB b F n)
+  quietB : (b : Block) (F : List Frame) (n : ℕ) → Each Quiet (rowsB b F n)
   quietB (one s) F n = quietS s F n
-  quietB (_then_ s b) F n = quiet-append (rowsS s F n) _ (quietS s F n) (quietB b F (n + sizeS s))
+  quietB (_then_ s b) F n = each-append Quiet (rowsS s F n) _ (quietS s F n) (quietB b F (n + sizeS s))
 
-quietP : (bs : List Block) (q n : ℕ) → Quiet (rowsP bs q n)
+quietP : (bs : List Block) (q n : ℕ) → Each Quiet (rowsP bs q n)
 unfolding rowsP
 quietP [] q n = tt
-quietP (b ∷ bs) q n = (λ h. refl, quiet-append (rowsB b [] (suc n)) _ (quietB b [] (suc n)) (λ h. refl, quietP bs (suc q) (suc (suc n + sizeB b))))
-
-quiet-at : (R : List Row) (x : ℕ) → Quiet R → kind (forget ((getD R x noRow) .rec)) < 4 → (getD R x noRow) .after ≡ []
-quiet-at [] x a h = refl
-quiet-at (ρ ∷ R) zero a h = a .0 h
-quiet-at (ρ ∷ R) (suc x) a h = quiet-at R x (a .1) h
+quietP (b ∷ bs) q n = (λ h. refl, each-append Quiet (rowsB b [] (suc n)) _ (quietB b [] (suc n)) (λ h. refl, quietP bs (suc q) (suc (suc n + sizeB b))))
 
 quiet-of : (t : Tree) (x : ℕ) → kind (forget (prog t .at x)) < 4 → prog t .encl x ≡ []
 unfolding prog rowsOf
-quiet-of t x h = quiet-at (rowsOf t) x (λ h. refl, quietP (procedures t) 0 1) h
+quiet-of t x h = each-getD Quiet (rowsOf t) x (λ h. refl) (λ h. refl, quietP (procedures t) 0 1) h
 
 -- ---- The procedures stand in order.
 begin-ge : (bs : List Block) (n k : ℕ) → k < length bs → n ≤ beginFrom bs n k

@@ -1,6 +1,6 @@
 -- The first pass: after x records, the entries of the labels below x are as the program says, and each slot that one of these records fills.
 use Prim.Native.Nat.{ℕ, suc, _+_, _*_, _-_, _%_, _≤_, _<_, pred}
-use mathlib.Core.Path.{_≡_, refl, ap, sym, _∙_, subst}
+use mathlib.Core.Path.{_≡_, refl, ap, sym, _∙_, subst, subst⁻¹}
 use mathlib.Core.List.{List, [], _∷_}
 use mathlib.Core.Bool.{cond}
 use mathlib.Core.Logic.{_⊎_, inl, inr}
@@ -15,7 +15,7 @@ use Rattle.moves.proofs.Linked.{Con, Rec, nameL, beginL, endL, setL, skipL, ifL
 use Rattle.moves.proofs.Cuts.{Local, ProcOk, SimpleOk}
 use Rattle.moves.proofs.Locals.{either}
 use Rattle.table.specs.Table.{blank, noted, placed, frameNo, before, opener, outside, begun, ended, inside, opened, turned, closed, entered, nextOwner, filled}
-use Rattle.table.proofs.Stores.{on-1, on-2, on-3, on-5, on-6, on-7, on-8, on-9, on-10, on-else}
+use Rattle.table.proofs.Stores.{on-else}
 use Rattle.table.proofs.Facts.{Facts}
 use Rattle.table.proofs.Parts.{openOf, midOf, tailOf, spotOf, Construct, cond-is, loop-is}
 use Rattle.table.proofs.Entries.{Adds, Away, low, high, Apart, labels-apart, apart, away-free, adds-five, adds-spot, spot-holds, before-noted}
@@ -239,31 +239,31 @@ module _ (t : Tree) (P : Prog) (n p : ℕ) (G : Facts t P n p) where
     abbrev Next : List ℕ → Type 0
     Next U = Filled os U (suc x) (nextOwner q k)
 
+    on : (j : ℕ) → k ≡ j → Next (entered N x q j) → Next (entered N x q k)
+    on j i h = subst⁻¹ (λ j. Next (entered N x q j)) i h
+
     kind-of : (ρ : Rec) → P .at x ≡ ρ → k ≡ kind (forget ρ)
     kind-of ρ e = ek ∙ ap (λ ρ. kind (forget ρ)) e
 
     onward : (k ≡ 3 → ⊥) → Owned (suc x) (nextOwner q k)
     onward m = owned-on x q k ek m (F .owned)
 
-    head-is : (ρ : Rec) → P .at x ≡ ρ → headOf (P .at x) ≡ headOf ρ
-    head-is ρ e = ap headOf e
-
     begins : (r : ℕ) → P .at x ≡ beginL r → x ≡ P .first r → ProcOk P r → Next (entered N x q k)
-    unfolding kind
+    unfolding kind entered
     begins r e l ok =
         let i = kind-of (beginL r) e in
         let z : r ≡ q = own x q r (F .owned) (omega arith) (omega (arith, ok .lt)) in
         let f = ap (P .first) z in
-        subst Next (on-2 N (begun N x q) x q k i refl)
+        on 2 i
         (on-begun (rw e (omega arith)) (rw e) (subst (λ r. r < p) z (there r x (omega arith) (omega (arith, ok .lt)))) (l ∙ f) (onward (λ y. omega arith)))
 
     ends : (r : ℕ) → P .at x ≡ endL r → x ≡ P .last r → ProcOk P r → Next (entered N x q k)
-    unfolding kind
+    unfolding kind entered
     ends r e l ok =
         let i = kind-of (endL r) e in
         let z : r ≡ q = own x q r (F .owned) (omega (arith, ok .lt)) (omega arith) in
         let f = ap (P .last) z in
-        subst Next (on-3 N (ended N x q) x q k i refl)
+        on 3 i
         (on-ended (rw e (omega arith)) (rw e) (subst (λ r. r < p) z (there r x (omega (arith, ok .lt)) (omega arith))) (l ∙ f)
         (owned-end x q k i (l ∙ f) (F .owned)))
 
@@ -280,10 +280,10 @@ module _ (t : Tree) (P : Prog) (n p : ℕ) (G : Facts t P n p) where
             (λ z. omega arith) (λ z. omega arith) (λ z. omega arith) (λ z. omega arith) refl) (there′ (λ z. omega arith) (λ z. omega arith))
 
     record-on : (ρ : Rec) → P .at x ≡ ρ → Local t P ρ x → Next (entered N x q k)
-    unfolding kind
+    unfolding kind entered
     record-on (nameL v ls) e l =
         let i = kind-of (nameL v ls) e in
-        subst Next (on-1 N (outside N x) x q k i refl) (on-outside (rw e (omega arith)) (rw e) (rw e) (onward (λ z. omega arith)))
+        on 1 i (on-outside (rw e (omega arith)) (rw e) (rw e) (onward (λ z. omega arith)))
     record-on (beginL r) e l = begins r e (l .0) (l .1)
     record-on (endL r) e l = ends r e (l .0) (l .1)
     record-on (setL o t ε) e l = statement (setL o t ε) e (inl (kind-of (setL o t ε) e)) refl refl (l .1)
@@ -292,22 +292,22 @@ module _ (t : Tree) (P : Prog) (n p : ℕ) (G : Facts t P n p) where
     record-on (uncallL r) e l = statement (uncallL r) e (inr (omega (arith, kind-of (uncallL r) e))) refl refl (l .1)
     record-on (ifL c) e l =
         let i = kind-of (ifL c) e in
-        subst Next (on-5 N (opened N x 0) x q k i refl) (on-opened 0 c (cond-is t P n p G c (l .1)) (onward (λ z. omega arith)) (l .0) (rw e))
+        on 5 i (on-opened 0 c (cond-is t P n p G c (l .1)) (onward (λ z. omega arith)) (l .0) (rw e))
     record-on (elseL c) e l =
         let i = kind-of (elseL c) e in
-        subst Next (on-6 N (turned N x 1) x q k i refl) (on-turned 0 c (cond-is t P n p G c (l .1)) (onward (λ z. omega arith)) (l .0) (rw e))
+        on 6 i (on-turned 0 c (cond-is t P n p G c (l .1)) (onward (λ z. omega arith)) (l .0) (rw e))
     record-on (fiL c) e l =
         let i = kind-of (fiL c) e in
-        subst Next (on-7 N (closed N x) x q k i refl) (on-closed 0 c (cond-is t P n p G c (l .1)) (onward (λ z. omega arith)) (l .0) (rw e))
+        on 7 i (on-closed 0 c (cond-is t P n p G c (l .1)) (onward (λ z. omega arith)) (l .0) (rw e))
     record-on (fromL c) e l =
         let i = kind-of (fromL c) e in
-        subst Next (on-8 N (opened N x 2) x q k i refl) (on-opened 2 c (loop-is t P n p G c (l .1)) (onward (λ z. omega arith)) (l .0) (rw e))
+        on 8 i (on-opened 2 c (loop-is t P n p G c (l .1)) (onward (λ z. omega arith)) (l .0) (rw e))
     record-on (loopL c) e l =
         let i = kind-of (loopL c) e in
-        subst Next (on-9 N (turned N x 3) x q k i refl) (on-turned 2 c (loop-is t P n p G c (l .1)) (onward (λ z. omega arith)) (l .0) (rw e))
+        on 9 i (on-turned 2 c (loop-is t P n p G c (l .1)) (onward (λ z. omega arith)) (l .0) (rw e))
     record-on (untilL c) e l =
         let i = kind-of (untilL c) e in
-        subst Next (on-10 N (closed N x) x q k i refl) (on-closed 2 c (loop-is t P n p G c (l .1)) (onward (λ z. omega arith)) (l .0) (rw e))
+        on 10 i (on-closed 2 c (loop-is t P n p G c (l .1)) (onward (λ z. omega arith)) (l .0) (rw e))
 
     pub filled-on : Filled os (entered N x q k) (suc x) (nextOwner q k)
     filled-on = record-on (P .at x) refl (G .wf .here x)

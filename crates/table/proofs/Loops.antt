@@ -1,31 +1,13 @@
 -- The loops of the three passes: what is left to be done gives the whole.
-use Prim.Native.Nat.{ℕ, zero, suc, _+_, _-_, _≤_, _<_, pred, min}
+use Prim.Native.Nat.{ℕ, suc, _+_, _-_, _≤_, _<_, pred, min}
 use mathlib.Core.Path.{_≡_, refl, ap, sym, _∙_}
 use mathlib.Core.List.{List, [], _∷_}
-use mathlib.Core.Logic.{⊎-elim}
 use native.Mathlib.Omega.{arith}
 use native.Mathlib.Numerals.{add-one}
-use borrow.Author.Tests.{lt-ltb, le-ltb}
 use lib.ListN.{length}
 use Rattle.records.specs.Walk.{stride, kindAt, offsetsFrom}
-use Rattle.order.proofs.OrderReads.{le-or-lt}
+use Rattle.records.proofs.Offsets.{offsets-past, offsets-capped}
 use Rattle.table.specs.Table.{noted, entered, nextOwner, filled, labelled, share, shared, join, joined, blank, tableOf}
-
--- ---- The offsets from a position on.
-past : (m : ℕ) (f : List ℕ) (i : ℕ) → length f ≤ i → offsetsFrom m f i ≡ []
-unfolding offsetsFrom
-past zero f i h = refl
-past (suc m) f i h = rw (le-ltb i (length f) h)
-
-capped : (m : ℕ) (f : List ℕ) (i : ℕ) → offsetsFrom m f (min (length f) i) ≡ offsetsFrom m f i
-capped m f i = ⊎-elim
-    (λ h. past m f (min (length f) i) (omega arith) ∙ sym (past m f i h))
-    (λ h. ap (λ j. offsetsFrom m f j) (omega arith))
-    (le-or-lt (length f) i)
-
-onward : (m : ℕ) (f : List ℕ) (i : ℕ) → i < length f → offsetsFrom (suc m) f i ≡ i ∷ offsetsFrom m f (min (length f) (i + stride f i))
-unfolding offsetsFrom
-onward m f i h = rw (lt-ltb i (length f) h) (ap (λ os. i ∷ os) (sym (capped m f (i + stride f i))))
 
 -- ---- The records that are left, x being filled.
 abbrev pub left : List ℕ → ℕ → ℕ → List ℕ
@@ -48,7 +30,7 @@ module _ (f T₀ T : List ℕ) (x q at : ℕ) where
       (omega (arith, l .count), sym (l .table ∙ ap (λ os. filled f os x q T) e))
 
   pub left-stops : length f ≤ at → Left f T₀ T x q at → ((x ≡ length (labelled f)) × (T ≡ filled f (labelled f) 0 0 T₀))
-  left-stops h l = left-none (past (1024 - x) f at h) l
+  left-stops h l = left-none (offsets-past (1024 - x) f at h) l
 
   pub left-full : 1024 ≤ x → Left f T₀ T x q at → ((x ≡ length (labelled f)) × (T ≡ filled f (labelled f) 0 0 T₀))
   unfolding offsetsFrom
@@ -59,7 +41,7 @@ module _ (f T₀ T : List ℕ) (x q at : ℕ) where
   unfolding filled
   left-on k q′ at′ U W hx h ek eU eW eq ea l =
       let z : 1024 - x ≡ suc (1024 - (x + 1)) = omega arith in
-      let e : left f x at ≡ at ∷ left f (x + 1) at′ = ap (λ m. offsetsFrom m f at) z ∙ rw ea (onward (1024 - (x + 1)) f at h) in
+      let e : left f x at ≡ at ∷ left f (x + 1) at′ = ap (λ m. offsetsFrom m f at) z ∙ rw ea (offsets-capped (1024 - (x + 1)) f at h) in
       record {
         table = l .table ∙ (ap (λ os. filled f os x q T) e ∙ rw (eq, eW, eU, ek, add-one x));
         count = let c = ap length e in omega (arith, l .count);

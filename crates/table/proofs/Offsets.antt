@@ -7,6 +7,7 @@ use native.Mathlib.Omega.{arith}
 use borrow.Author.Tests.{lt-ltb, le-ltb}
 use Rattle.records.specs.Records.{Record, names, kind}
 use Rattle.records.specs.Walk.{stride, kindAt, offsets, offsetsFrom, kindsAt}
+use Rattle.records.proofs.Offsets.{offsets-past}
 use Rattle.moves.proofs.Locals.{either}
 use Rattle.table.specs.Table.{labelled}
 
@@ -18,7 +19,7 @@ empty (x ∷ l) h = absurd (omega arith)
 enough : (n m : ℕ) (f : List ℕ) (at : ℕ) → length f ≤ at + m → length (offsetsFrom m f at) ≤ n → offsetsFrom n f at ≡ offsetsFrom m f at
 unfolding offsetsFrom
 enough zero m f at h k = sym (empty (offsetsFrom m f at) k)
-enough (suc n) zero f at h k = rw (le-ltb at (length f) (omega arith))
+enough (suc n) zero f at h k = offsets-past (suc n) f at (omega arith)
 enough (suc n) (suc m) f at h k = either at (length f)
     (λ l. let z = lt-ltb at (length f) l in
     let y = rw z at k in

@@ -1,13 +1,13 @@
 -- The parts of a construct, by label, and its frames as numbers.
 use Prim.Native.Nat.{ℕ, suc, _+_, _*_, _<_, pred}
-use mathlib.Core.Path.{_≡_, ap, sym, _∙_}
+use mathlib.Core.Path.{_≡_, refl, ap, sym, _∙_}
 use mathlib.Core.List.{List, [], _∷_}
 use native.Mathlib.Omega.{arith}
 use Rattle.records.specs.Records.{kind}
 use Rattle.order.specs.Trees.{Tree}
 use Rattle.moves.specs.Edges.{Frame, frameKind, frameLabel}
-use Rattle.moves.proofs.Linked.{Con, Rec, nameL, beginL, endL, setL, skipL, ifL, elseL, fiL, fromL, loopL, untilL, callL, uncallL, Prog, forget, headOf}
-use Rattle.moves.proofs.Cuts.{CondOk, LoopOk}
+use Rattle.moves.proofs.Linked.{Con, Rec, nameL, beginL, endL, setL, skipL, ifL, elseL, fiL, fromL, loopL, untilL, callL, uncallL, Prog, forget, ofCon, headOf}
+use Rattle.moves.proofs.Cuts.{ConOk, CondOk, LoopOk}
 use Rattle.moves.proofs.Locals.{either}
 use Rattle.table.specs.Table.{frameNo}
 use Rattle.table.proofs.Facts.{Facts}
@@ -28,34 +28,10 @@ openOf (f ∷ F) = 1 + (1024 * frameKind f + frameLabel f)
 
 -- The construct that the record is a part of: its ELSE or LOOP, its FI or UNTIL.
 abbrev pub midOf : Rec → ℕ
-midOf (nameL v ls) = 0
-midOf (beginL q) = 0
-midOf (endL q) = 0
-midOf (setL o x e) = 0
-midOf skipL = 0
-midOf (ifL c) = c .m
-midOf (elseL c) = c .m
-midOf (fiL c) = c .m
-midOf (fromL c) = c .m
-midOf (loopL c) = c .m
-midOf (untilL c) = c .m
-midOf (callL q) = 0
-midOf (uncallL q) = 0
+midOf ρ = ofCon (λ c. c .m) ρ
 
 abbrev pub tailOf : Rec → ℕ
-tailOf (nameL v ls) = 0
-tailOf (beginL q) = 0
-tailOf (endL q) = 0
-tailOf (setL o x e) = 0
-tailOf skipL = 0
-tailOf (ifL c) = c .r
-tailOf (elseL c) = c .r
-tailOf (fiL c) = c .r
-tailOf (fromL c) = c .r
-tailOf (loopL c) = c .r
-tailOf (untilL c) = c .r
-tailOf (callL q) = 0
-tailOf (uncallL q) = 0
+tailOf ρ = ofCon (λ c. c .r) ρ
 
 -- Where the record's own label is stored beside its entries: at its IF or FROM, or by its procedure; 5120, a slot that is filled later, for nowhere.
 abbrev pub spotOf : Rec → ℕ
@@ -94,40 +70,31 @@ module _ (t : Tree) (P : Prog) (n p : ℕ) (G : Facts t P n p) where
   pub within : (x : ℕ) → (kind (forget (P .at x)) ≡ 1 → ⊥) → x < n
   within x h = either x n (λ k. k) (λ k. absurd (h (G .beyond x k)))
 
-  pub cond-is : (c : Con) → CondOk P c → Construct P n 0 c
-  unfolding kind
-  cond-is c k = record {
+  -- What a construct's records and frames are to have, whether it is IF or FROM.
+  construct-is : (a : ℕ) (c : Con) {ρl ρm ρr : Rec} {f g : Frame} → ConOk P c ρl ρm ρr f g → (kind (forget ρr) ≡ 1 → ⊥)
+      → (headOf ρl ≡ c .l) × (midOf ρl ≡ c .m) × (tailOf ρl ≡ c .r) × (spotOf ρm ≡ 3072 + c .l) × (spotOf ρr ≡ 4096 + c .l)
+      → openOf (f ∷ []) ≡ frameNo a (c .l) → openOf (g ∷ []) ≡ frameNo (suc a) (c .l) → Construct P n a c
+  construct-is a c k last (head, mid, tail, spot-m, spot-r) hf hg = record {
     pos = k .span .pos;
     l<m = k .span .l<m;
     m<r = k .span .m<r;
-    r<n = within (c .r) (λ e. let z : _≡_ {A = ℕ} 7 1 = sym (ap (λ ρ. kind (forget ρ)) (k .at-r)) ∙ e in omega arith);
-    head = rw (k .at-l);
-    mid = rw (k .at-l);
-    tail = rw (k .at-l);
-    spot-m = rw (k .at-m);
-    spot-r = rw (k .at-r);
-    open-l = rw (k .en-l);
-    to-m = rw (k .en-m′);
-    open-m = rw (k .en-m);
-    to-r = rw (k .en-r′);
+    r<n = within (c .r) (λ e. last (sym (ap (λ ρ. kind (forget ρ)) (k .at-r)) ∙ e));
+    head = rw (k .at-l) head;
+    mid = rw (k .at-l) mid;
+    tail = rw (k .at-l) tail;
+    spot-m = rw (k .at-m) spot-m;
+    spot-r = rw (k .at-r) spot-r;
+    open-l = rw (k .en-l) hf;
+    to-m = rw (k .en-m′) hf;
+    open-m = rw (k .en-m) hg;
+    to-r = rw (k .en-r′) hg;
     open-r = k .en-r;
   }
 
+  pub cond-is : (c : Con) → CondOk P c → Construct P n 0 c
+  unfolding kind
+  cond-is c k = construct-is 0 c k (λ e. omega arith) (refl, refl, refl, refl, refl) refl refl
+
   pub loop-is : (c : Con) → LoopOk P c → Construct P n 2 c
   unfolding kind
-  loop-is c k = record {
-    pos = k .span .pos;
-    l<m = k .span .l<m;
-    m<r = k .span .m<r;
-    r<n = within (c .r) (λ e. let z : _≡_ {A = ℕ} 10 1 = sym (ap (λ ρ. kind (forget ρ)) (k .at-r)) ∙ e in omega arith);
-    head = rw (k .at-l);
-    mid = rw (k .at-l);
-    tail = rw (k .at-l);
-    spot-m = rw (k .at-m);
-    spot-r = rw (k .at-r);
-    open-l = rw (k .en-l);
-    to-m = rw (k .en-m′);
-    open-m = rw (k .en-m);
-    to-r = rw (k .en-r′);
-    open-r = k .en-r;
-  }
+  loop-is c k = construct-is 2 c k (λ e. omega arith) (refl, refl, refl, refl, refl) refl refl

@@ -48,41 +48,8 @@ pub ruleset stores = (blank-is, noted-is, outside-is, begun-is, ended-is, inside
 
 -- ---- Each kind has its function.
 module _ (T U : List ℕ) (x q k : ℕ) where
-  pub on-1 : k ≡ 1 → U ≡ outside T x → U ≡ entered T x q k
-  unfolding entered
-  on-1 p h = rw p h
-
-  pub on-2 : k ≡ 2 → U ≡ begun T x q → U ≡ entered T x q k
-  unfolding entered
-  on-2 p h = rw p h
-
-  pub on-3 : k ≡ 3 → U ≡ ended T x q → U ≡ entered T x q k
-  unfolding entered
-  on-3 p h = rw p h
-
-  pub on-5 : k ≡ 5 → U ≡ opened T x 0 → U ≡ entered T x q k
-  unfolding entered
-  on-5 p h = rw p h
-
-  pub on-6 : k ≡ 6 → U ≡ turned T x 1 → U ≡ entered T x q k
-  unfolding entered
-  on-6 p h = rw p h
-
-  pub on-7 : k ≡ 7 → U ≡ closed T x → U ≡ entered T x q k
-  unfolding entered
-  on-7 p h = rw p h
-
-  pub on-8 : k ≡ 8 → U ≡ opened T x 2 → U ≡ entered T x q k
-  unfolding entered
-  on-8 p h = rw p h
-
-  pub on-9 : k ≡ 9 → U ≡ turned T x 3 → U ≡ entered T x q k
-  unfolding entered
-  on-9 p h = rw p h
-
-  pub on-10 : k ≡ 10 → U ≡ closed T x → U ≡ entered T x q k
-  unfolding entered
-  on-10 p h = rw p h
+  pub on-kind : (j : ℕ) → k ≡ j → U ≡ entered T x q j → U ≡ entered T x q k
+  on-kind j p h = rw p h
 
   pub on-else : (k ≡ 1 → ⊥) → (k ≡ 2 → ⊥) → (k ≡ 3 → ⊥) → (k ≡ 5 → ⊥) → (k ≡ 6 → ⊥) → (k ≡ 7 → ⊥) → (k ≡ 8 → ⊥) → (k ≡ 9 → ⊥) → (k ≡ 10 → ⊥)
       → U ≡ inside T x → U ≡ entered T x q k
@@ -90,7 +57,7 @@ module _ (T U : List ℕ) (x q k : ℕ) where
   on-else p1 p2 p3 p5 p6 p7 p8 p9 p10 h =
       rw (ne-eqb k 1 p1, ne-eqb k 2 p2, ne-eqb k 3 p3, ne-eqb k 5 p5, ne-eqb k 6 p6, ne-eqb k 7 p7, ne-eqb k 8 p8, ne-eqb k 9 p9, ne-eqb k 10 p10) h
 
-pub ruleset kinds = (on-1, on-2, on-3, on-5, on-6, on-7, on-8, on-9, on-10, on-else)
+pub ruleset kinds = (on-kind, on-else)
 
 -- ---- The procedure of the next record.
 module _ (q k : ℕ) where

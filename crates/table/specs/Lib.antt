@@ -1,1 +1,2 @@
+-- The definitions of `table`.
 pub mod Table

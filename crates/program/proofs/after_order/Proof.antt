@@ -12,7 +12,5 @@ after-order-spec =
     (λ c. search needs)
     (λ c κs. search needs)
     (λ c κs. search needs)
-    (λ c κs. search needs)
-    (λ c κs. search needs)
     (λ c. search answers)
     (λ c. search answers))
