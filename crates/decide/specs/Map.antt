@@ -40,15 +40,15 @@ actAt f tab b d = cond (eqb (lookIn tab (1024 + b)) 4) (cond (eqb (formAt f tab 
 
 -- ---- the way on from record b: the record that is left there, where its test does not hold, or does
 abbrev pub leftAt : List ℕ → ℕ → ℕ → ℕ → Bool → ℕ
-leftAt tab a b d no =
-    cond (eqb a 5) (cond (same no (eqb d 0)) (lookIn tab (3072 + b)) b)
+leftAt tab a b d fails =
+    cond (eqb a 5) (cond (same fails (eqb d 0)) (lookIn tab (3072 + b)) b)
     (cond (eqb a 8) (cond (eqb d 0) b (lookIn tab (3072 + b)))
-    (cond (eqb a 10) (cond no (cond (eqb d 0) (lookIn tab (3072 + b)) (lookIn tab (4096 + b))) b)
+    (cond (eqb a 10) (cond fails (cond (eqb d 0) (lookIn tab (3072 + b)) (lookIn tab (4096 + b))) b)
     b))
 
 unfoldable pub onwardAt : List ℕ → ℕ → ℕ → Bool → ℕ
-onwardAt tab b d no =
-    wayTo (alongOf tab (resumedOf tab b d) (leftAt tab (actOf (lookIn tab (1024 + b)) d) b d no)) (resumedOf tab b d)
+onwardAt tab b d fails =
+    wayTo (alongOf tab (resumedOf tab b d) (leftAt tab (actOf (lookIn tab (1024 + b)) d) b d fails)) (resumedOf tab b d)
 
 -- ---- a call: the record by which the procedure is entered, and the way from there; a SET: its operator, and its cell or array
 unfoldable pub gateAt : List ℕ → List ℕ → ℕ → ℕ → ℕ
