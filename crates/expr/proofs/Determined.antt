@@ -26,11 +26,10 @@ module _ (κs : Lfts 1) where
   pub names-known-determined : (a : _) (r r′ : _) (s s′ : _) → names-known.Post κs a r s → names-known.Post κs a r′ s′ → r ≡ r′
   names-known-determined a r r′ s s′ p q = p ∙ sym q
 
--- the answer, and the position afterwards
-pub worth-determined : (κs : Lfts 4) (a : _) (r r′ : _) (s s′ : _) → worth.Post κs a r s → worth.Post κs a r′ s′
-    → (r ≡ r′) × (s .1 .0 .now ≡ s′ .1 .0 .now)
-worth-determined κs a r r′ s s′ p q = (p .answer ∙ sym (q .answer), p .place ∙ sym (q .place))
+pub worth-determined : (κs : Lfts 3) (a : _) (r r′ : _) (s s′ : _) → worth.Post κs a r s → worth.Post κs a r′ s′ → r ≡ r′
+worth-determined κs a r r′ s s′ p q = p .answer ∙ sym (q .answer)
 
+-- the answer, and the position afterwards
 pub amount-determined : (κs : Lfts 4) (a : _) (r r′ : _) (s s′ : _) → amount.Post κs a r s → amount.Post κs a r′ s′
     → (r ≡ r′) × (s .1 .0 .now ≡ s′ .1 .0 .now)
 amount-determined κs a r r′ s s′ p q = (p .answer ∙ sym (q .answer), p .place ∙ sym (q .place))

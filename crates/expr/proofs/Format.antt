@@ -17,7 +17,7 @@ use borrow.Author.Tests.{le-leb, leb-true, lt-ltb, ltb-true, eqb-true, eq-eqb}
 use Rattle.codes.specs.Codes.{bytes16, word16, AllBytes}
 use Rattle.codes.proofs.Rows.{one-byte, two-bytes, byte-of, head-of, short-lt, cell-fits, short-bytes, cell-bytes, short-back, cell-back}
 use Rattle.expr.specs.Tree.{Expr, con, var, read, bin, depth, Valid, encode}
-use Rattle.expr.specs.Bytes.{Stands, Got, parse, whole, gotCon, gotVar, gotRead, gotBin}
+use Rattle.expr.specs.Bytes.{Stands, Got, upTo, parse, whole, gotCon, gotVar, gotRead, gotBin}
 use Rattle.expr.specs.Answers.{EndSays, endOf, pickEnd}
 use Rattle.expr.specs.declared.End.{End}
 use Rattle.expr.specs.declared.End.the-variants.{At, Bad}
@@ -25,10 +25,10 @@ use Rattle.expr.proofs.Layer.{whole-ok, parse-step, layer-con, layer-va
 
 -- what is ok lies within the bytes
 pub inside : (d : ℕ) (s : List ℕ) (at : ℕ) → parse d s at .ok ≡ true → at < length s
-unfolding parse
+unfolding upTo
 inside zero s at o = let z : _≡_ {A = Bool} false true = o in absurd (false≢true z)
 inside (suc d) s at o =
-    layer-cases (λ g. g .ok ≡ true → at < length s) (parse d s) s at (λ h o. absurd (false≢true o)) (λ h e o. h) (λ h e o. h) (λ h e o. h)
+    layer-cases (λ g. g .ok ≡ true → at < length s) (length s) (parse d s) s at (λ h o. absurd (false≢true o)) (λ h e o. h) (λ h e o. h) (λ h e o. h)
     (λ h a b c o. h)
     o
 
@@ -45,12 +45,12 @@ abbrev Good : List ℕ → ℕ → ℕ → Got → Type 0
 Good s at d g = Valid (g .tree) × ((depth (g .tree) ≤ d) × Stands s at (g .tree) (g .next))
 
 module _ (s : List ℕ) (B : AllBytes s) where
-  good-con : (at d : ℕ) → getD s at 0 ≡ 0 → at + 5 ≤ length s → Good s at (suc d) (gotCon s at)
+  good-con : (at d : ℕ) → getD s at 0 ≡ 0 → at + 5 ≤ length s → Good s at (suc d) (gotCon (length s) s at)
   unfolding Valid depth Stands encode
   good-con at d e h =
       (cell-fits s B (at + 1), (omega arith, (drop (at + 1 + 4) s, tagged s at 0 _ (omega arith) e (cell-bytes s B (at + 1) (omega arith)), refl)))
 
-  good-var : (at d : ℕ) → getD s at 0 ≡ 1 → at + 3 ≤ length s → Good s at (suc d) (gotVar s at)
+  good-var : (at d : ℕ) → getD s at 0 ≡ 1 → at + 3 ≤ length s → Good s at (suc d) (gotVar (length s) s at)
   unfolding Valid depth Stands encode
   good-var at d e h =
       (short-lt s B (at + 1), (omega arith, (drop (at + 1 + 2) s, tagged s at 1 _ (omega arith) e (short-bytes s B (at + 1) (omega arith)), refl)))
@@ -69,10 +69,10 @@ module _ (s : List ℕ) (B : AllBytes s) where
       ((o, (p .0, q .0)), (omega (arith, p .1 .0, q .1 .0), (q .1 .1 .0, two-bytes s at (omega arith) ∙ cc (e, p .1 .1 .1, append-assoc (encode (l .tree)) (encode (r .tree)) (q .1 .1 .0)), simp length-append (omega (arith, p .1 .1 .2, q .1 .1 .2)))))
 
   pub sound : (d at : ℕ) → parse d s at .ok ≡ true → Good s at d (parse d s at)
-  unfolding parse
+  unfolding upTo
   sound zero at o = absurd (false≢true o)
   sound (suc d) at o =
-      layer-cases (λ g. g .ok ≡ true → Good s at (suc d) g) (parse d s) s at (λ h o. absurd (false≢true o))
+      layer-cases (λ g. g .ok ≡ true → Good s at (suc d) g) (length s) (parse d s) s at (λ h o. absurd (false≢true o))
       (λ h e o. good-con at d e (leb-true (at + 5) (length s) o))
       (λ h e o. good-var at d e (leb-true (at + 3) (length s) o))
       (λ h e o. good-read at d (parse d s (at + 3)) e (inside d s (at + 3) o) (sound d (at + 3) o))
@@ -102,16 +102,16 @@ module _ (s : List ℕ) where
   complete (con x) d at rest v h D =
       let r = room at (encode (con x) ++ rest) D (omega arith) in
       let w = cell-back s (at + 1) rest x v (rest-at at 1 _ D) in
-      rw (parse-step d s at (λ e. omega arith), layer-con _ s at (omega arith) (head-of s at 0 _ D), le-leb (at + 5) (length s) (omega arith), w)
+      rw (parse-step d s at (λ e. omega arith), layer-con (length s) _ s at (omega arith) (head-of s at 0 _ D), le-leb (at + 5) (length s) (omega arith), w)
   complete (var x) d at rest v h D =
       let r = room at (encode (var x) ++ rest) D (omega arith) in
       let w = short-back s (at + 1) rest x v (rest-at at 1 _ D) in
-      rw (parse-step d s at (λ e. omega arith), layer-var _ s at (omega arith) (head-of s at 1 _ D), le-leb (at + 3) (length s) (omega arith), w)
+      rw (parse-step d s at (λ e. omega arith), layer-var (length s) _ s at (omega arith) (head-of s at 1 _ D), le-leb (at + 3) (length s) (omega arith), w)
   complete (read a i) d at rest v h D =
       let r = room at (encode (read a i) ++ rest) D (omega arith) in
       let w = short-back s (at + 1) (encode i ++ rest) a (v .0) (rest-at at 1 _ D) in
       let n : at + 3 + length (encode i) ≡ at + length (encode (read a i)) = omega arith in
-      rw (parse-step d s at (λ e. omega arith), layer-read _ s at (omega arith) (head-of s at 2 _ D), complete i (d - 1) (at + 3) rest (v .1) (omega arith) (rest-at at 3 _ D), w, n)
+      rw (parse-step d s at (λ e. omega arith), layer-read (length s) _ s at (omega arith) (head-of s at 2 _ D), complete i (d - 1) (at + 3) rest (v .1) (omega arith) (rest-at at 3 _ D), w, n)
   complete (bin o l r) d at rest v h D =
       let z = room at (encode (bin o l r) ++ rest) D (omega arith) in
       let tag = head-of s at 3 _ D in
@@ -120,7 +120,7 @@ module _ (s : List ℕ) where
       let n : at + 2 + length (encode l) + length (encode r) ≡ at + length (encode (bin o l r)) = simp length-append (omega arith) in
       rw (
         parse-step d s at (λ e. omega arith),
-        layer-bin _ s at (omega arith) (λ e. omega arith) (λ e. omega arith) (λ e. omega arith),
+        layer-bin (length s) _ s at (omega arith) (λ e. omega arith) (λ e. omega arith) (λ e. omega arith),
         eq-eqb (getD s at 0) 3 tag,
         byte-of s at 1 _ D,
         lt-ltb o 16 (v .0),
@@ -128,6 +128,18 @@ module _ (s : List ℕ) where
         complete r (d - 1) (at + 2 + length (encode l)) rest (v .1 .1) (omega arith) D3,
         n,
       )
+
+some-bytes : (e : Expr) → 0 < length (encode e)
+unfolding encode
+some-bytes (con v) = omega arith
+some-bytes (var x) = omega arith
+some-bytes (read a i) = omega arith
+some-bytes (bin o l r) = omega arith
+
+-- a tree that stands there ends within the bytes
+inside-end : (s : List ℕ) (at : ℕ) (e : Expr) (n : ℕ) → Stands s at e n → n ≤ length s
+unfolding Stands
+inside-end s at e n st = omega (arith, st .2, room s at (encode e ++ st .0) (st .1) (omega (arith, length-append (encode e) (st .0), some-bytes e)), length-append (encode e) (st .0))
 
 -- where a tree stands, what is read there is that tree: for whoever has checked the bytes before
 module _ (s : List ℕ) (at d : ℕ) (e : Expr) (n : ℕ) (v : Valid e) (h : depth e ≤ d) (st : Stands s at e n) where
@@ -137,7 +149,9 @@ module _ (s : List ℕ) (at d : ℕ) (e : Expr) (n : ℕ) (v : Valid e) (h : dep
 
 module _ (s : List ℕ) (at : ℕ) (e : Expr) (n : ℕ) (v : Valid e) (st : Stands s at e n) where
   pub whole-of : whole s at ≡ got e n
-  whole-of = let p = parse-of s at (depth e) e n v (le-refl (depth e)) st in whole-ok (depth e) s at (rw p) ∙ p
+  whole-of =
+      let p = parse-of s at (depth e) e n v (le-refl (depth e)) st in
+      whole-ok s at (depth e) (rw p) (rw p (inside-end s at e n st)) ∙ p
 
 -- one tree for given bytes, and one end
 pub unique : (s : List ℕ) (at : ℕ) (e e′ : Expr) (n n′ : ℕ) → Valid e → Valid e′ → Stands s at e n → Stands s at e′ n′ → (e ≡ e′) × (n ≡ n′)

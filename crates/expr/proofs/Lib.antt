@@ -6,6 +6,5 @@ pub mod Ends
 pub mod Values
 pub mod Names
 pub mod Knowns
-pub mod Standing
 pub mod Vectors
 pub mod Determined

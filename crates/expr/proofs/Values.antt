@@ -2,12 +2,13 @@
 use mathlib.Core.Path.{_≡_, refl, sym, ap, _∙_}
 use mathlib.Core.List.{List}
 use mathlib.Core.Bool.{true, false, false≢true, true≢false}
-use Prim.Native.Nat.{ℕ, _+_, _-_, _^_, _≤_, _<_}
+use Prim.Native.Nat.{ℕ, zero, suc, _+_, _^_, _≤_, _<_}
 use native.Mathlib.Nat.{add-comm}
 use native.Mathlib.Omega.{arith}
-use borrow.Author.Tests.{lt-ltb, le-ltb, ltb-true}
+use borrow.Author.Tests.{lt-ltb, le-ltb, ltb-true, eq-eqb, ne-eqb}
+use lib.Dec.{eqb}
 use lib.IntN.{ℤ, pos, negsuc}
-use lib.ListN.{length, getD, take, drop, length-take, List·getD-eq-default}
+use lib.ListN.{getD, take, drop, length-take, List·getD-eq-default}
 use lib.Seq.{getD-take, getD-drop}
 use lib.Signed.{ltZ}
 use mir.Syntax.{w32, w64}
@@ -21,10 +22,10 @@ use Rattle.values.proofs.Bits.{wide-fits, wide-is}
 use Rattle.values.proofs.Laws.{apply-fits}
 use Rattle.expr.specs.Tree.{Fault, byZero, badIndex, Worth, value, stop, worthOf, element, eval}
 use Rattle.expr.specs.Agreement.{both, indexed}
-use Rattle.expr.specs.Bytes.{Got, nothing, parse}
-use Rattle.expr.specs.Answers.{packedWorth, unpacked, InCell, Packs, movedTo, arraysOf, worthAt, readAt, WorthSays, OnTheWay}
+use Rattle.expr.specs.Bytes.{Got, gotIf, gotBin, within}
+use Rattle.expr.specs.Answers.{packedWorth, unpacked, InCell, Packs, leafSize, leafIn, movedTo, arraysOf, worthAt, readAt, WorthSays, OnTheWay}
 use Rattle.expr.proofs.Agree.{worth-fits}
-use Rattle.expr.proofs.Layer.{parse-none, parse-out, parse-con, parse-var, parse-read, parse-bin}
+use Rattle.expr.proofs.Layer.{within-out, within-con, within-var, within-read, within-bin, within-grows}
 
 -- a signed number that was put in a variable, a field or an argument is read back from its bits
 abbrev again : ℤ → ℤ
@@ -154,80 +155,128 @@ packed-worth : (v : Value) → packed v ≡ packedWorth (worthOf v)
 packed-worth (is v) = refl
 packed-worth zeroDivisor = refl
 
--- ---- the evaluator
-inside : (s : List ℕ) (at : ℕ) → at < 32768 → length s ≡ 32768 → at < length s
-inside s at h l = rw l h
+-- a side ends no earlier than it starts
+pub mid-after : (w : Worth) (s : List ℕ) (at : ℕ) (l : ℤ) (mid : ℕ) → OnTheWay w (within 32768 s at .next) l mid → SFits w64 l → ltZ (pos 2147483647) (again64 l) ≡ false → at ≤ mid
+mid-after w s at l mid o f t = omega (arith, told-value w _ l mid o f t .1 .1, within-grows 32768 s at)
 
-module _ (A : List ℕ) (C : List ℤ) (s : List ℕ) (left at : ℕ) where
-  nothing-worth : parse left s at ≡ nothing at → OnTheWay (worthAt A C (parse left s at)) (parse left s at .next) (pos 0) at
+-- ---- the evaluator, before 32,768
+module _ (A : List ℕ) (C : List ℤ) (s : List ℕ) (at : ℕ) where
+  abbrev Goes : ℤ → ℕ → Type 0
+  Goes r after = OnTheWay (worthAt A C (within 32768 s at)) (within 32768 s at .next) r after
+
+  pub value-out : 32768 ≤ at → Goes (pos 0) at
   unfolding eval
-  nothing-worth e = rw e (record { answer = refl; range = sfits-lit tt; place = refl })
+  value-out h = rw (within-out 32768 s at h) (record { answer = refl; range = sfits-lit tt; place = refl })
 
-  pub value-none : left ≡ 0 → OnTheWay (worthAt A C (parse left s at)) (parse left s at .next) (pos 0) at
-  value-none e = nothing-worth (parse-none left s at e)
-
-  -- the bytes are an array of 32,768
-  pub value-out : 32768 ≤ at → length s ≡ 32768 → OnTheWay (worthAt A C (parse left s at)) (parse left s at .next) (pos 0) at
-  value-out h l = nothing-worth (parse-out left s at (rw l h))
-
-  module _ (nz : left ≡ 0 → ⊥) (near : at < 32768) (size : length s ≡ 32768) (tag : ℕ) (tg : tag ≡ getD s at 0) where
-    pub value-con : (v : ℤ) → tag ≡ 0 → SFits w32 v → v ≡ cellAt s (at + 1)
-        → OnTheWay (worthAt A C (parse left s at)) (parse left s at .next) (again64 (again v)) (at + 5)
+  module _ (near : at < 32768) (tag : ℕ) (tg : tag ≡ getD s at 0) where
+    pub value-con : (v : ℤ) → tag ≡ 0 → SFits w32 v → v ≡ cellAt s (at + 1) → Goes (again64 (again v)) (at + 5)
     unfolding eval
-    value-con v e f p = rw (parse-con s at (inside s at near size) tag tg left nz e) (way-value _ (at + 5) v (ap value (sym p)) f)
+    value-con v e f p = rw (within-con 32768 s at near tag tg e) (way-value _ (at + 5) v (ap value (sym p)) f)
 
-    pub value-var : (x : ℕ) (v : ℤ) → tag ≡ 1 → SFits w32 v → v ≡ getD C x (pos 0) → x ≡ word16 s (at + 1)
-        → OnTheWay (worthAt A C (parse left s at)) (parse left s at .next) (again64 (again v)) (at + 3)
+    pub value-var : (x : ℕ) (v : ℤ) → tag ≡ 1 → SFits w32 v → v ≡ getD C x (pos 0) → x ≡ word16 s (at + 1) → Goes (again64 (again v)) (at + 3)
     unfolding eval
-    value-var x v e f p q = rw (parse-var s at (inside s at near size) tag tg left nz e) (way-value _ (at + 3) v (rw (← q) (ap value (sym p))) f)
+    value-var x v e f p q = rw (within-var 32768 s at near tag tg e) (way-value _ (at + 3) v (rw (← q) (ap value (sym p))) f)
 
     pub value-read : (r : ℤ) (after : ℕ) → tag ≡ 2 → SFits w64 r
-        → OnTheWay (readAt A C (word16 s (at + 1)) (parse (left - 1) s (at + 3))) (parse (left - 1) s (at + 3) .next) r after
-        → OnTheWay (worthAt A C (parse left s at)) (parse left s at .next) (again64 r) after
+        → OnTheWay (readAt A C (word16 s (at + 1)) (within 32768 s (at + 3))) (within 32768 s (at + 3) .next) r after → Goes (again64 r) after
     unfolding eval
-    value-read r after e f o = rw (parse-read s at (inside s at near size) tag tg left nz e) (way-on _ _ r after f o)
+    value-read r after e f o = rw (within-read 32768 s at near tag tg e) (way-on _ _ r after f o)
 
-    module _ (n0 : tag ≡ 0 → ⊥) (n1 : tag ≡ 1 → ⊥) (n2 : tag ≡ 2 → ⊥) (l : ℤ) (mid : ℕ)
-        (lo : OnTheWay (worthAt A C (parse (left - 1) s (at + 2))) (parse (left - 1) s (at + 2) .next) l mid) (fl : SFits w64 l) where
-      pub left-stop : ltZ (pos 2147483647) (again64 l) ≡ true → OnTheWay (worthAt A C (parse left s at)) (parse left s at .next) (again64 l) mid
+    module _ (big : 1 < getD s at 0) (n2 : tag ≡ 2 → ⊥) (l : ℤ) (mid : ℕ)
+        (lo : OnTheWay (worthAt A C (within 32768 s (at + 2))) (within 32768 s (at + 2) .next) l mid) (fl : SFits w64 l) where
+      bin-is : within 32768 s at ≡ gotIf (eqb tag 3) (gotBin (getD s (at + 1) 0) (within 32768 s (at + 2)) (within 32768 s (within 32768 s (at + 2) .next)))
+      bin-is = within-bin 32768 s at near tag tg (λ e. omega arith) (λ e. omega arith) n2
+
+      pub left-stop : ltZ (pos 2147483647) (again64 l) ≡ true → Goes (again64 l) mid
       unfolding eval
       left-stop t =
           let w = told-stop _ _ l mid lo fl t in
-          let e = ap (λ (x : Worth). both (getD s (at + 1) 0) x (worthAt A C (parse (left - 1) s (parse (left - 1) s (at + 2) .next)))) (w .1 .0) in
-          rw (parse-bin s at (inside s at near size) tag tg left nz n0 n1 n2) (way-stop _ _ (w .0) (again64 l) mid e (w .1 .1))
+          let e = ap (λ (x : Worth). both (getD s (at + 1) 0) x (worthAt A C (within 32768 s (within 32768 s (at + 2) .next)))) (w .1 .0) in
+          rw bin-is (way-stop _ _ (w .0) (again64 l) mid e (w .1 .1))
 
       module _ (tl : ltZ (pos 2147483647) (again64 l) ≡ false) (r : ℤ) (after : ℕ)
-          (ro : OnTheWay (worthAt A C (parse (left - 1) s mid)) (parse (left - 1) s mid .next) r after) (fr : SFits w64 r) where
-        pub right-stop : ltZ (pos 2147483647) (again64 r) ≡ true → OnTheWay (worthAt A C (parse left s at)) (parse left s at .next) (again64 r) after
+          (ro : OnTheWay (worthAt A C (within 32768 s mid)) (within 32768 s mid .next) r after) (fr : SFits w64 r) where
+        pub right-stop : ltZ (pos 2147483647) (again64 r) ≡ true → Goes (again64 r) after
         unfolding eval
         right-stop t =
             let x = told-value _ _ l mid lo fl tl in
             let w = told-stop _ _ r after ro fr t in
-            let e = ap (λ (y : Worth). both (getD s (at + 1) 0) y (worthAt A C (parse (left - 1) s mid))) (x .0) ∙ ap (both (getD s (at + 1) 0) (value l)) (w .1 .0) in
-            rw (parse-bin s at (inside s at near size) tag tg left nz n0 n1 n2, ← x .1 .1) (way-stop _ _ (w .0) (again64 r) after e (w .1 .1))
+            let e = ap (λ (y : Worth). both (getD s (at + 1) 0) y (worthAt A C (within 32768 s mid))) (x .0) ∙ ap (both (getD s (at + 1) 0) (value l)) (w .1 .0) in
+            rw (bin-is, ← x .1 .1) (way-stop _ _ (w .0) (again64 r) after e (w .1 .1))
 
         pub value-bin : (v : ℤ) (o : ℕ) → ltZ (pos 2147483647) (again64 r) ≡ false → SFits w64 v → v ≡ packed (applyOp o (again (again64 l)) (again (again64 r)))
-            → o ≡ getD s (at + 1) 0 → OnTheWay (worthAt A C (parse left s at)) (parse left s at .next) (again64 v) after
+            → o ≡ getD s (at + 1) 0 → Goes (again64 v) after
         unfolding eval
         value-bin v o t fv p oo =
             let x = told-value _ _ l mid lo fl tl in
             let y = told-value _ _ r after ro fr t in
             let sl : again (again64 l) ≡ l = ap again (toZ-ofZ fl) ∙ toZ-ofZ (x .1 .0) in
             let sr : again (again64 r) ≡ r = ap again (toZ-ofZ fr) ∙ toZ-ofZ (y .1 .0) in
-            rw (parse-bin s at (inside s at near size) tag tg left nz n0 n1 n2, ← x .1 .1, x .0, y .0, ← oo)
+            rw (bin-is, ← x .1 .1, x .0, y .0, ← oo)
             (record {
               answer = toZ-ofZ fv ∙ rw (sl, sr) at p ∙ packed-worth (applyOp o l r);
               range = worth-fits (applyOp o l r) (apply-fits o l r (x .1 .0) (y .1 .0));
               place = at-end (worthOf (applyOp o l r)) after _ (y .1 .1);
             })
 
-pub ruleset evaluations = (value-none, value-out, value-con, value-var, value-read, left-stop, right-stop, value-bin)
+  -- an answer that is passed on
+  pub passed-on : (r : ℤ) (after : ℕ) → SFits w64 r → Goes r after → Goes (again64 r) after
+  passed-on r after f o = way-on _ _ r after f o
 
--- ---- the operand's answer is the evaluator's, where that is asked
-pub operand-on : (w : Worth) (next : ℕ) (r : ℤ) (after : ℕ) → SFits w64 r → OnTheWay w next r after → OnTheWay w next (again64 r) after
-operand-on w next r after f o = way-on w next r after f o
+pub ruleset compounds = (value-read, left-stop, right-stop, value-bin)
 
-pub ruleset operands = (operand-on, value-none, value-out, value-con, value-var)
+pub ruleset operands = (passed-on, value-out, value-con, value-var)
+
+-- ---- where the position afterwards is not asked
+pub packs-on : (w : Worth) (next : ℕ) (r : ℤ) (after : ℕ) → SFits w64 r → OnTheWay w next r after → Packs w (again64 r)
+packs-on w next r after f o = rw (toZ-ofZ f) (record { answer = o .answer; range = o .range })
+
+pub packs-same : (w : Worth) (r : ℤ) → SFits w64 r → Packs w r → Packs w (again64 r)
+packs-same w r f o = rw (toZ-ofZ f) o
+
+pub ruleset packings = (packs-on, packs-same)
+
+-- ---- a constant or a scalar
+pub size-con : (tag : ℕ) → tag ≡ 0 → 5 ≡ leafSize tag
+size-con tag e = rw (eq-eqb tag 0 e)
+
+pub size-var : (tag : ℕ) → (tag ≡ 0 → ⊥) → 3 ≡ leafSize tag
+size-var tag e = rw (ne-eqb tag 0 e)
+
+module _ (s : List ℕ) (C : List ℤ) (tag at : ℕ) (v : ℤ) (f : SFits w32 v) where
+  pub leaf-con : tag ≡ 0 → v ≡ cellAt s (at + 1) → again v ≡ leafIn s C tag at
+  leaf-con e p = rw (eq-eqb tag 0 e) (toZ-ofZ f ∙ p)
+
+  pub leaf-var : (x : ℕ) → (tag ≡ 0 → ⊥) → v ≡ getD C x (pos 0) → x ≡ word16 s (at + 1) → again v ≡ leafIn s C tag at
+  leaf-var x e p q = rw (ne-eqb tag 0 e, ← q) (toZ-ofZ f ∙ p)
+
+pub ruleset leaves = (size-con, size-var, leaf-con, leaf-var)
+
+-- ---- an operator on two constants or scalars
+module _ (A : List ℕ) (C : List ℤ) (s : List ℕ) where
+  -- what stands at a constant or scalar
+  leaf-at : (at tag : ℕ) → at < 32768 → tag ≡ getD s at 0 → tag < 2 → (worthAt A C (within 32768 s at) ≡ value (leafIn s C tag at)) × (within 32768 s at .next ≡ at + leafSize tag)
+  unfolding eval
+  leaf-at at zero h tg k = let e = within-con 32768 s at h 0 tg refl in (rw e refl, rw e refl)
+  leaf-at at (suc zero) h tg k = let e = within-var 32768 s at h 1 tg refl in (rw e refl, rw e refl)
+  leaf-at at (suc (suc n)) h tg k = absurd (omega arith)
+
+  pub pair-is : (at : ℕ) → at < 32752 → getD s at 0 ≡ 3 → (l z r mid o : ℕ) (x y v : ℤ) → l ≡ getD s (at + 2) 0 → l < 2 → z ≡ leafSize l → z < 6 → mid ≡ at + 2 + z → r ≡ getD s mid 0 → r < 2
+      → SFits w32 x → SFits w32 y → x ≡ leafIn s C l (at + 2) → y ≡ leafIn s C r mid → SFits w64 v → v ≡ packed (applyOp o (again x) (again y)) → o ≡ getD s (at + 1) 0
+      → Packs (worthAt A C (within 32768 s at)) (again64 v)
+  unfolding eval
+  pair-is at h three l z r mid o x y v ll lk zz small mm rr rk fx fy xx yy fv p oo =
+      let a = leaf-at (at + 2) l (omega arith) ll lk in
+      let b = leaf-at mid r (omega arith) rr rk in
+      let n : within 32768 s (at + 2) .next ≡ mid = a .1 ∙ (ap (λ (k : ℕ). at + 2 + k) (sym zz) ∙ sym mm) in
+      let t = within-bin 32768 s at (omega arith) (getD s at 0) refl (λ e. omega arith) (λ e. omega arith) (λ e. omega arith) in
+      rw (t, n, a .0, b .0, ← xx, ← yy, ← oo)
+      (record {
+        answer = toZ-ofZ fv ∙ rw (toZ-ofZ fx, toZ-ofZ fy) at p ∙ packed-worth (applyOp o x y);
+        range = worth-fits (applyOp o x y) (apply-fits o x y fx fy);
+      })
+
+pub ruleset pairs = (pair-is, packs-same)
 
 -- ---- the whole: a refusal puts the position back
 module _ (A : List ℕ) (C : List ℤ) (g : Got) (r : ℤ) (after : ℕ) (o : OnTheWay (worthAt A C g) (g .next) r after) (f : SFits w64 r) where

@@ -7,7 +7,7 @@ use lib.IntN.{pos, negsuc}
 use Rattle.values.specs.Values.{applyOp}
 use Rattle.expr.specs.Tree.{anyName, Expr, con, var, read, bin, depth, encode, element, eval, Worth, value, stop, byZero, badIndex}
 use Rattle.expr.specs.Agreement.{scalar, array, occurs}
-use Rattle.expr.specs.Bytes.{parse, layer}
+use Rattle.expr.specs.Bytes.{upTo, parse, layer}
 use Rattle.expr.specs.Answers.{endOf}
 use Rattle.expr.specs.declared.End.the-variants.{At, Bad}
 
@@ -63,7 +63,7 @@ on-the-left = refl
 
 -- bytes and back
 pub read-back : parse 16 (3 ∷ 8 ∷ 0 ∷ 255 ∷ 255 ∷ 255 ∷ 255 ∷ 2 ∷ 1 ∷ 2 ∷ 1 ∷ 3 ∷ 0 ∷ []) 0 .tree ≡ bin 8 (con (negsuc 0)) (read 513 (var 3))
-unfolding parse layer
+unfolding upTo layer
 read-back = refl
 
 pub written : encode (bin 8 (con (negsuc 0)) (read 513 (var 3))) ≡ 3 ∷ 8 ∷ 0 ∷ 255 ∷ 255 ∷ 255 ∷ 255 ∷ 2 ∷ 1 ∷ 2 ∷ 1 ∷ 3 ∷ 0 ∷ []
@@ -76,9 +76,9 @@ nested zero = var 0
 nested (suc n) = read 0 (nested n)
 
 pub sixteen : (depth (nested 15) ≡ 16) × (endOf (parse 16 (encode (nested 15)) 0) ≡ At 48)
-unfolding depth parse layer encode
+unfolding depth upTo layer encode
 sixteen = (refl, refl)
 
 pub seventeen : (depth (nested 16) ≡ 17) × (endOf (parse 16 (encode (nested 16)) 0) ≡ Bad)
-unfolding depth parse layer encode
+unfolding depth upTo layer encode
 seventeen = (refl, refl)

@@ -5,7 +5,9 @@ use mathlib.Core.List.{List}
 use mathlib.Core.Bool.{Bool, true, false, cond}
 use lib.Dec.{eqb}
 use lib.IntN.{ℤ, pos, negsuc}
-use lib.ListN.{take, drop}
+use lib.ListN.{getD, take, drop}
+use Rattle.codes.specs.Codes.{word16}
+use Rattle.codes.specs.Numbers.{cellAt}
 use lib.Dec.{ltb}
 use mir.Syntax.{w32}
 use mir.Val.{SFits}
@@ -65,6 +67,13 @@ worthAt arrays cells g = eval (arraysOf arrays) cells (g .tree)
 -- what array a is worth at the index that the tree says
 abbrev pub readAt : List ℕ → List ℤ → ℕ → Got → Worth
 readAt arrays cells a g = indexed (arraysOf arrays) cells a (worthAt arrays cells g)
+
+-- how long a constant (0) or a scalar (1) is, and what it holds
+abbrev pub leafSize : ℕ → ℕ
+leafSize tag = cond (eqb tag 0) 5 3
+
+abbrev pub leafIn : List ℕ → List ℤ → ℕ → ℕ → ℤ
+leafIn s cells tag at = cond (eqb tag 0) (cellAt s (at + 1)) (getD cells (word16 s (at + 1)) (pos 0))
 
 -- the answer r for a worth w
 pub record Packs (w : Worth) (r : ℤ) : Type 0 where

@@ -24,11 +24,11 @@ pub record Got : Type 0 where
 abbrev pub nothing : ℕ → Got
 nothing at = record { ok = false; tree = con (pos 0); next = at }
 
-abbrev pub gotCon : List ℕ → ℕ → Got
-gotCon s at = record { ok = leb (at + 5) (length s); tree = con (cellAt s (at + 1)); next = at + 5 }
+abbrev pub gotCon : ℕ → List ℕ → ℕ → Got
+gotCon m s at = record { ok = leb (at + 5) m; tree = con (cellAt s (at + 1)); next = at + 5 }
 
-abbrev pub gotVar : List ℕ → ℕ → Got
-gotVar s at = record { ok = leb (at + 3) (length s); tree = var (word16 s (at + 1)); next = at + 3 }
+abbrev pub gotVar : ℕ → List ℕ → ℕ → Got
+gotVar m s at = record { ok = leb (at + 3) m; tree = var (word16 s (at + 1)); next = at + 3 }
 
 abbrev pub gotRead : ℕ → Got → Got
 gotRead a i = record { ok = i .ok; tree = read a (i .tree); next = i .next }
@@ -43,21 +43,28 @@ abbrev pub pickGot : Bool → Got → Got → Got
 pickGot true a b = a
 pickGot false a b = b
 
--- one layer of a tree, by its first byte, over what `sub` reads further on; a byte over 3 is read as 3, and is not ok
-unfoldable pub layer : (ℕ → Got) → List ℕ → ℕ → Got
-layer sub s at =
-    pickGot (ltb at (length s))
-    (pickGot (eqb (getD s at 0) 0) (gotCon s at)
-    (pickGot (eqb (getD s at 0) 1) (gotVar s at)
+-- one layer of a tree before position m, by its first byte, over what `sub` reads further on; a byte over 3 is read as 3, and is not ok
+unfoldable pub layer : ℕ → (ℕ → Got) → List ℕ → ℕ → Got
+layer m sub s at =
+    pickGot (ltb at m)
+    (pickGot (eqb (getD s at 0) 0) (gotCon m s at)
+    (pickGot (eqb (getD s at 0) 1) (gotVar m s at)
     (pickGot (eqb (getD s at 0) 2) (gotRead (word16 s (at + 1)) (sub (at + 3)))
     (gotIf (eqb (getD s at 0) 3) (gotBin (getD s (at + 1) 0) (sub (at + 2)) (sub (sub (at + 2) .next)))))))
     (nothing at)
 
--- at most d deep
-unfoldable pub parse : ℕ → List ℕ → ℕ → Got
-parse zero s at = nothing at
-parse (suc d) s at = layer (parse d s) s at
+-- before position m, at most d deep
+unfoldable pub upTo : ℕ → ℕ → List ℕ → ℕ → Got
+upTo m zero s at = nothing at
+upTo m (suc d) s at = layer m (upTo m d s) s at
+
+-- in all the bytes, at most d deep
+abbrev pub parse : ℕ → List ℕ → ℕ → Got
+parse d s at = upTo (length s) d s at
 
 -- with no bound on the depth but that of the bytes left
+unfoldable pub within : ℕ → List ℕ → ℕ → Got
+within m s at = upTo m (m - at) s at
+
 unfoldable pub whole : List ℕ → ℕ → Got
-whole s at = parse (length s - at) s at
+whole s at = within (length s) s at

@@ -6,7 +6,7 @@ use lib.IntN.{ℤ, pos, negℤ}
 use Rattle.values.specs.Values.{applyOp, wrap, floorDiv, floorMod}
 use Rattle.expr.specs.Tree.{anyName, Expr, con, bin, Worth, value, stop, worthOf, eval, known}
 use Rattle.expr.specs.Agreement.{occurs}
-use Rattle.expr.specs.Bytes.{whole, parse, layer}
+use Rattle.expr.specs.Bytes.{whole, within, upTo, layer}
 use Rattle.expr.specs.Answers.{faultNumber}
 use Rattle.records.specs.Records.{sum}
 use Rattle.records.specs.Walk.{offsets, offsetsFrom, kindsAt}
@@ -98,5 +98,5 @@ pub starred :
     ∷ refused 8 2
     ∷ accepted 4 1 2
     ∷ []
-unfolding applyOp wrap floorDiv floorMod eval checkOf cellsOf walkOf walkFrom orderOf orderFrom next offsets offsetsFrom kindsAt wrongAt cutAt unknownAt sizedAs namesFit lengthsFit formedAs setBody shortsAt sum whole parse layer known occurs anyName thereScalar thereArray thereCall thereAt freeScalar freeArray freeAt firstFrom
+unfolding applyOp wrap floorDiv floorMod eval checkOf cellsOf walkOf walkFrom orderOf orderFrom next offsets offsetsFrom kindsAt wrongAt cutAt unknownAt sizedAs namesFit lengthsFit formedAs setBody shortsAt sum whole within upTo layer known occurs anyName thereScalar thereArray thereCall thereAt freeScalar freeArray freeAt firstFrom
 starred = refl

@@ -5,7 +5,7 @@ use Prim.Native.Nat.{ℕ}
 use lib.IntN.{pos}
 use lib.ListN.{length, replicate}
 use Rattle.expr.specs.Tree.{con, var, bin, encode}
-use Rattle.expr.specs.Bytes.{parse, layer}
+use Rattle.expr.specs.Bytes.{upTo, layer}
 use Rattle.records.specs.Records.{names, begin, end, assign, cell, from, loop, until, skip, bytesOf, encodeRecord, body, kind, sum}
 use Rattle.records.specs.Reading.{walkOf, walkFrom, wrongAt, cutAt, unknownAt, formedAs, setBody, sizedAs, namesFit, lengthsFit, shortsAt}
 use Rattle.records.specs.declared.Walked.{Walked}
@@ -28,7 +28,7 @@ counting =
     )
 
 pub counted : (length counting ≡ 76) × (walkOf counting ≡ Fine 9 1)
-unfolding walkOf walkFrom wrongAt cutAt unknownAt formedAs setBody sizedAs namesFit lengthsFit shortsAt sum bytesOf encodeRecord body kind flatMap encode parse layer
+unfolding walkOf walkFrom wrongAt cutAt unknownAt formedAs setBody sizedAs namesFit lengthsFit shortsAt sum bytesOf encodeRecord body kind flatMap encode upTo layer
 counted = (refl, refl)
 
 -- NAMES, BEGIN, and then these bytes: the fault is record 2
@@ -64,5 +64,5 @@ large =
 pub faults : (map third cuts ≡ replicate 5 (Faulty 2 2))
     × ((map third strange ≡ replicate 3 (Faulty 3 2))
     × ((map third bad ≡ replicate 6 (Faulty 4 2)) × (map third large ≡ replicate 3 (Faulty 5 2))))
-unfolding walkOf walkFrom wrongAt cutAt unknownAt formedAs setBody sizedAs namesFit lengthsFit shortsAt sum bytesOf encodeRecord body kind flatMap encode parse layer
+unfolding walkOf walkFrom wrongAt cutAt unknownAt formedAs setBody sizedAs namesFit lengthsFit shortsAt sum bytesOf encodeRecord body kind flatMap encode upTo layer
 faults = (refl, (refl, (refl, refl)))

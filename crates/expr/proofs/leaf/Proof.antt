@@ -1,0 +1,17 @@
+-- `expr::leaf` meets its contract: the cases of `Values`. Assumes nothing.
+use borrow.Author.Needs.{needs}
+use Rattle.expr.proofs.Values.{leaves}
+use Rattle.expr.proofs.leaf.Statement.{statement}
+use Rattle.expr.proofs.leaf.Tie as tie
+
+pub leaf-spec : {M : Type 1} → statement M
+leaf-spec =
+    tie.close
+    (tie.spec
+    (λ c. search needs)
+    (λ c κs. search needs)
+    (λ c. search leaves)
+    (λ c. search needs)
+    (λ c κs. search needs)
+    (λ c κs. search needs)
+    (λ c. search leaves))
