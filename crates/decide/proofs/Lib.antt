@@ -3,3 +3,4 @@ pub mod SetCases
 pub mod DecideCases
 pub mod Rules
 pub mod MapCases
+pub mod Mapped

@@ -10,9 +10,9 @@ use lib.ListN.{length, getD, set, length-set, length-replicate, getD-replicate}
 use lib.Seq.{ext-getD, getD-set-same, getD-set-other}
 use Rattle.records.specs.Faults.{word}
 use Rattle.decide.specs.Sets.{operatorAt}
-use Rattle.decide.specs.Decide.{lookIn, otherOf, alongOf, gateOf, procAt, resumedOf}
+use Rattle.decide.specs.Decide.{lookIn, otherOf, alongOf, gateOf, resumedOf, testOf, actOf, leftAt}
 use Rattle.decide.specs.Ways.{wayTo}
-use Rattle.decide.specs.Map.{noEntries, testOf, actOf, actAt, leftAt, onwardAt, gateAt, intoAt, firstAt, secondAt, exprAt, entryAt, Maps}
+use Rattle.decide.specs.Map.{noEntries, actAt, onwardAt, gateAt, intoAt, firstAt, secondAt, exprAt, entryAt, Maps}
 
 -- ---- `test_of`, `act_of`
 module _ (k d : ℕ) where

@@ -7,7 +7,7 @@ use Rattle.expr.specs.Bytes.{within}
 use Rattle.expr.specs.Answers.{worthAt}
 use Rattle.moves.specs.Stores.{Answer, ok, no, Store}
 use Rattle.decide.specs.Sets.{Leaves, setAt}
-use Rattle.decide.specs.Decide.{Seen, Moved, lookIn, otherOf, alongOf, truthOf, keptOf, enteredOf, procAt, returnedOf, testedOf, assignedOf, afterSet, Rules, ruleOf}
+use Rattle.decide.specs.Decide.{Seen, Moved, lookIn, otherOf, alongOf, behindOf, truthOf, keptOf, enteredOf, procAt, returnedOf, testedOf, assignedOf, afterSet, Rules, ruleOf}
 
 module _ (f tab arr : List ℕ) (s : Seen) (σ : Store) (k at : ℕ) (kk : k ≡ lookIn tab (1024 + s .b)) (aa : at ≡ lookIn tab (s .b)) (m : Moved) (nb : s .b < 1024) where
   abbrev Says : Store → Type 0
@@ -44,3 +44,11 @@ module _ (f tab arr : List ℕ) (s : Seen) (σ : Store) (k at : ℕ) (kk : k ≡
           pub rule-test : (v : ℕ) → 3 < k → m ≡ testedOf s k v tab → v ≡ truthOf (worthAt arr σ (within 32768 f (at + 4))) → Says σ
           unfolding ruleOf
           rule-test v e h n = rw (lt-ltb (s .b) 1024 nb, ← kk, ne-eqb k 4 n4, ne-eqb k 13 n13, ne-eqb k 11 n11, ne-eqb k 12 n12, lt-leb k 3 e, ← aa, ← n) (record { made = h; left = refl })
+
+-- one comes back to a call, and leaves that
+module _ (tab : List ℕ) (l d : ℕ) where
+  pub behind-call : lookIn tab (1024 + l) ≡ 11 → behindOf tab l d ≡ l
+  behind-call e = rw e
+
+  pub behind-uncall : lookIn tab (1024 + l) ≡ 12 → behindOf tab l d ≡ l
+  behind-uncall e = rw e

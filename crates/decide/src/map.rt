@@ -14,8 +14,8 @@ use codes::byte;
 use codes::short;
 ghost use mathlib.Core.Path.{_≡_};
 ghost use Prim.Native.Nat.{min};
-ghost use Rattle.decide.specs.Decide.{resumedOf};
-ghost use Rattle.decide.specs.Map.{actOf, testOf, leftAt, onwardAt, gateAt, intoAt, actAt, firstAt, secondAt, exprAt, entryAt, Maps, noEntries};
+ghost use Rattle.decide.specs.Decide.{resumedOf, testOf, actOf, leftAt};
+ghost use Rattle.decide.specs.Map.{onwardAt, gateAt, intoAt, actAt, firstAt, secondAt, exprAt, entryAt, Maps, noEntries};
 
 // No entry.
 fn none() -> [u16; 14336]

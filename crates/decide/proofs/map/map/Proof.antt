@@ -31,5 +31,5 @@ map-spec =
     (λ c. omega arith)
     (λ c. omega arith)
     (λ c. omega arith)
-    (λ c. (omega arith, omega arith, filled-more _ _ _ _ _ (omega arith) (c .before .before .loop .inv .1 .1) (c .entry-at .ensures)))
+    (λ c. (omega arith, omega arith, filled-more _ _ _ _ _ (omega arith) (c .before .before .loop .inv .2) (c .entry-at .ensures)))
     (λ c. search filled-all))
