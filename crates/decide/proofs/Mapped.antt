@@ -4,16 +4,17 @@ use mathlib.Core.List.{List}
 use mathlib.Core.Bool.{Bool, true, false, cond, Bool·beq as same}
 use Prim.Native.Nat.{ℕ, zero, suc, _+_, _*_, _/_, _%_, _≤_, _<_}
 use native.Mathlib.Omega.{arith}
-use borrow.Author.Tests.{lt-ltb, eq-eqb, eqb-true}
-use lib.Dec.{eqb, leb}
+use borrow.Author.Tests.{lt-ltb, eqb-true}
+use lib.Dec.{eqb, leb, ltb}
 use lib.ListN.{getD}
 use Rattle.expr.specs.Bytes.{within}
 use Rattle.expr.specs.Answers.{worthAt}
 use Rattle.records.specs.Faults.{word}
 use Rattle.moves.specs.Stores.{Answer, ok, no, number, Store}
-use Rattle.decide.specs.Sets.{operatorAt, setEntry, setAt}
-use Rattle.decide.specs.Decide.{Seen, Moved, lookIn, alongOf, otherOf, gateOf, procAt, resumedOf, behindOf, truthOf, refusedOf, chosenOf, closedOf, openedOf, repeatedOf, enteredTo, enteredOf, returnedOf, testedOf, assignedOf, ruled as tabled, afterSet as afterSetOf, ruleOf}
+use Rattle.decide.specs.Sets.{operatorAt, setTo, setEntry, setAt}
+use Rattle.decide.specs.Decide.{Seen, Moved, lookIn, moreOf, moving, alongOf, otherOf, gateOf, procAt, resumedOf, behindOf, truthOf, backOf, refusedOf, pushedOf, poppedOf, changedOf, chosenOf, closedOf, openedOf, repeatedOf, enteredTo, enteredOf, returnedOf, testedOf, assignedOf, ruled as tabled, afterSet as afterSetOf, ruleOf}
 use Rattle.decide.specs.Ways.{wayTo, Sight, actIn, yesIn, noIn, firstIn, secondIn, exprIn, headIn, refusedIn, chosenIn, closedIn, openedIn, repeatedIn, enteredIn, returnedIn, testedIn, assignedIn, Ruled, ruled, afterSet, setCell, ruleIn, sightOf, packedMove, packed}
+use Rattle.decide.specs.declared.Move.{Move}
 use Rattle.decide.specs.Map.{actAt, onwardAt, gateAt, intoAt, firstAt, secondAt, exprAt, entryAt, Maps}
 use Rattle.decide.proofs.MapCases.{entry-0, entry-2, entry-4, entry-6, entry-8, entry-10, entry-12}
 
@@ -89,7 +90,7 @@ module _ (f tab arr m : List ℕ) (n : ℕ) (M : Maps f tab n m) (small : n ≤ 
   abbrev K : ℕ
   K = lookIn tab (1024 + b)
 
-  Agree : Type 0
+  abbrev Agree : Type 0
   Agree = ruleIn f m arr s σ ≡ packed (ruleOf f tab arr S σ)
 
   abbrev act : actIn m (wayTo b d) ≡ actAt f tab b d
@@ -104,11 +105,18 @@ module _ (f tab arr m : List ℕ) (n : ℕ) (M : Maps f tab n m) (small : n ≤ 
   abbrev own : wayTo b d % 1024 ≡ b
   own = label-in f tab m n M small b d hb hd
 
-  abbrev near : wayTo b d < 2048
-  near = near-in f tab m n M small b d hb hd
+  abbrev near : ltb (wayTo b d) 2048 ≡ true
+  near = lt-ltb (wayTo b d) 2048 (near-in f tab m n M small b d hb hd)
 
-  low : b < 1024
-  low = omega arith
+  low : ltb b 1024 ≡ true
+  low = lt-ltb b 1024 (omega arith)
+
+  either : (t : Bool) (x y : Moved) → cond t (packedMove x) (packedMove y) ≡ packedMove (cond t x y)
+  either true x y = refl
+  either false x y = refl
+
+  by-move : (x : Move) (y : Moved) → x ≡ packedMove y → ruled x σ ≡ packed (tabled y σ)
+  by-move x y e = ap (λ (x : Move). ruled x σ) e
 
   -- a SET
   module _ (e : K ≡ 4) where
@@ -118,8 +126,141 @@ module _ (f tab arr m : List ℕ) (n : ℕ) (M : Maps f tab n m) (small : n ≤ 
 
     after-set : (x : Answer Store) → afterSet s m σ x ≡ packed (afterSetOf S tab σ x)
     after-set (ok τ) = rw (yes, yes-set, own)
-    after-set (no q) = rw (yes, yes-set, own) (go (eqb (number q) 0))
+    after-set (no q) = rw (yes, yes-set, own) (by-move _ _ (either (eqb (number q) 0) (assignedOf S 0 tab) (refusedOf S (number q))))
+
+    module _ (ho : lookIn tab b < 32768) where
+      expr-set : exprAt tab b ≡ lookIn tab b + 8
+      unfolding exprAt
+      expr-set = rw (lt-ltb (lookIn tab b) 32768 ho, e)
+
+      first-set : firstAt f tab b d ≡ operatorAt (getD f (lookIn tab b + 4) 0) d
+      unfolding firstAt
+      first-set = rw e
+
+      second-set : secondAt f tab b d ≡ word f (lookIn tab b + 6)
+      unfolding secondAt
+      second-set = rw e
+
+      act-set : (t : Bool) → eqb (getD f (lookIn tab b + 5) 0) 0 ≡ t → actAt f tab b d ≡ cond t 4 6
+      unfolding actAt
+      act-set t h = rw (e, h)
+
+      set-by : (t : Bool) → eqb (getD f (lookIn tab b + 5) 0) 0 ≡ t → Agree
+      unfolding ruleIn ruleOf setAt setCell
+      set-by true h =
+          rw (near, low, act, act-set true h, expr-in f tab m n M small b d hb hd, expr-set, first-in f tab m n M small b d hb hd, first-set,
+          second-in f tab m n M small b d hb hd, second-set, e, h)
+          (after-set (setTo (word f (lookIn tab b + 6)) (operatorAt (getD f (lookIn tab b + 4) 0) d) σ (worthAt arr σ (within 32768 f (lookIn tab b + 8)))))
+      set-by false h =
+          rw (near, low, act, act-set false h, expr-in f tab m n M small b d hb hd, expr-set, first-in f tab m n M small b d hb hd, first-set,
+          second-in f tab m n M small b d hb hd, second-set, e, h)
+          (after-set (setEntry f (lookIn tab b + 8) (word f (lookIn tab b + 6)) (operatorAt (getD f (lookIn tab b + 4) 0) d) arr σ))
+
+  -- a SKIP
+  act-skip : K ≡ 13 → actAt f tab b d ≡ 13
+  unfolding actAt
+  act-skip e = rw e
+
+  yes-skip : K ≡ 13 → onwardAt tab b d false ≡ wayTo (alongOf tab d b) d
+  unfolding onwardAt
+  yes-skip e = rw e
+
+  skips : K ≡ 13 → Agree
+  unfolding ruleIn ruleOf
+  skips e = rw (near, low, act, act-skip e, yes, yes-skip e, own, e)
+
+  -- a call, in the direction d′
+  module _ (d′ : ℕ) (F : firstAt f tab b d ≡ gateOf tab (procAt f tab b) d′) (G : secondAt f tab b d ≡ wayTo (alongOf tab d′ (gateOf tab (procAt f tab b) d′)) d′) where
+    enters : enteredIn s m ≡ packedMove (enteredOf S (procAt f tab b) d′ tab)
+    unfolding enteredIn enteredOf enteredTo
+    enters =
+        rw (first-in f tab m n M small b d hb hd, F, second-in f tab m n M small b d hb hd, G, own)
+        (either (leb 64 calls) (refusedOf S 34)
+        (moving 0 d′ (gateOf tab (procAt f tab b) d′) (alongOf tab d′ (gateOf tab (procAt f tab b) d′)) (calls + 1) (moreOf count) count 4 b))
+
+  act-call : K ≡ 11 → actAt f tab b d ≡ 11
+  unfolding actAt
+  act-call e = rw e
+
+  first-call : K ≡ 11 → firstAt f tab b d ≡ gateOf tab (procAt f tab b) d
+  unfolding firstAt gateAt
+  first-call e = rw e
+
+  second-call : K ≡ 11 → secondAt f tab b d ≡ wayTo (alongOf tab d (gateOf tab (procAt f tab b) d)) d
+  unfolding secondAt intoAt gateAt
+  second-call e = rw e
+
+  calling : K ≡ 11 → Agree
+  unfolding ruleIn ruleOf
+  calling e = rw (near, low, act, act-call e, e) (by-move _ _ (enters d (first-call e) (second-call e)))
+
+  act-uncall : K ≡ 12 → actAt f tab b d ≡ 11
+  unfolding actAt
+  act-uncall e = rw e
+
+  first-uncall : K ≡ 12 → firstAt f tab b d ≡ gateOf tab (procAt f tab b) (otherOf d)
+  unfolding firstAt gateAt
+  first-uncall e = rw e
+
+  second-uncall : K ≡ 12 → secondAt f tab b d ≡ wayTo (alongOf tab (otherOf d) (gateOf tab (procAt f tab b) (otherOf d))) (otherOf d)
+  unfolding secondAt intoAt gateAt
+  second-uncall e = rw e
+
+  uncalling : K ≡ 12 → Agree
+  unfolding ruleIn ruleOf
+  uncalling e = rw (near, low, act, act-uncall e, e) (by-move _ _ (enters (otherOf d) (first-uncall e) (second-uncall e)))
+
+  -- a return
+  module _ (hl : label < n) where
+    back : yesIn m (label + wayTo b d / 1024 * 1024) ≡ onwardAt tab label d false
+    back =
+        let k : label < 1024 = omega arith in
+        let e : label + wayTo b d / 1024 * 1024 ≡ wayTo label d = ap (λ (x : ℕ). label + x) (side-in f tab m n M small b d hb hd) ∙ sym (way-is label d k hd) in
+        ap (λ (x : ℕ). yesIn m x) e ∙ yes-in f tab m n M small label d hl hd
+
+    returning : returnedIn s m ≡ packedMove (returnedOf S tab)
+    unfolding returnedIn returnedOf onwardAt
+    returning = rw (lt-ltb label 1024 (omega arith), back) (either (eqb calls 0) (refusedOf S 30) (backOf S (resumedOf tab label d) label tab))
+
+  -- a test; y is left where it holds, z where it does not
+  stops : (v : ℕ) (x : Move) (y : Moved) → x ≡ packedMove y → cond (leb 2 v) (refusedIn s v) x ≡ packedMove (cond (leb 2 v) (refusedOf S v) y)
+  stops v x y e = ap (λ (x : Move). cond (leb 2 v) (refusedIn s v) x) e ∙ either (leb 2 v) (refusedOf S v) y
+
+  abbrev H : ℕ
+  H = lookIn tab (2048 + b)
+
+  abbrev head : headIn m (wayTo b d) ≡ H
+  head = head-in f tab m n M small b d hb hd
+
+  module _ (y : ℕ) (Y : onwardAt tab b d false ≡ wayTo (alongOf tab d y) d) (v : ℕ) where
+    chooses : (z : ℕ) → onwardAt tab b d true ≡ wayTo (alongOf tab d z) d
+        → chosenIn s v m ≡ packedMove (cond (eqb v 0) (pushedOf S (alongOf tab d z) 1 H) (pushedOf S (alongOf tab d y) 0 H))
+    unfolding chosenIn
+    chooses z Z = rw (nay, Z, yes, Y, head, own) (either (eqb v 0) (pushedOf S (alongOf tab d z) 1 H) (pushedOf S (alongOf tab d y) 0 H))
+
+    opens : openedIn s v m ≡ packedMove (openedOf S v y tab)
+    unfolding openedIn openedOf
+    opens = rw (yes, Y, head, own) (go (cond (eqb kind 3) (eqb label H) false) (eqb v 0))
       where
-        go : (t : Bool) → _≡_ {A = Ruled} (ruled (cond t (packedMove (assignedOf S 0 tab)) (refusedIn s (number q))) σ) (packed (tabled (cond t (assignedOf S 0 tab) (refusedOf S (number q))) σ))
-        go true = refl
-        go false = refl
+        go : (t u : Bool) → cond t (cond u (packedMove (changedOf S (alongOf tab d y) 2)) (refusedIn s 31)) (cond u (refusedIn s 31) (packedMove (pushedOf S (alongOf tab d y) 2 H)))
+            ≡ packedMove (cond t (cond u (changedOf S (alongOf tab d y) 2) (refusedOf S 31)) (cond u (refusedOf S 31) (pushedOf S (alongOf tab d y) 2 H)))
+        go true true = refl
+        go true false = refl
+        go false true = refl
+        go false false = refl
+
+  module _ (Y : onwardAt tab b d false ≡ wayTo (alongOf tab d b) d) (v : ℕ) where
+    closes : closedIn s v m ≡ packedMove (closedOf S v tab)
+    unfolding closedIn closedOf
+    closes = rw (yes, Y, own) (go (eqb v 0) (eqb kind 0))
+      where
+        go : (t u : Bool) → cond (same t u) (refusedIn s 31) (packedMove (poppedOf S (alongOf tab d b)))
+            ≡ packedMove (cond t (cond u (refusedOf S 31) (poppedOf S (alongOf tab d b))) (cond u (poppedOf S (alongOf tab d b)) (refusedOf S 31)))
+        go true true = refl
+        go true false = refl
+        go false true = refl
+        go false false = refl
+
+    repeats : (z : ℕ) → onwardAt tab b d true ≡ wayTo (alongOf tab d z) d → repeatedIn s v m ≡ packedMove (repeatedOf S v z tab)
+    unfolding repeatedIn repeatedOf
+    repeats z Z = rw (nay, Z, yes, Y, own) (either (eqb v 0) (changedOf S (alongOf tab d z) 3) (poppedOf S (alongOf tab d b)))
