@@ -4,3 +4,4 @@ pub mod DecideCases
 pub mod Rules
 pub mod MapCases
 pub mod Mapped
+pub mod Determined

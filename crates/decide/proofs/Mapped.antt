@@ -148,12 +148,36 @@ module _ (f tab arr m : List ℕ) (n : ℕ) (M : Maps f tab n m) (small : n ≤ 
       set-by : (t : Bool) → eqb (getD f (lookIn tab b + 5) 0) 0 ≡ t → Agree
       unfolding ruleIn ruleOf setAt setCell
       set-by true h =
-          rw (near, low, act, act-set true h, expr-in f tab m n M small b d hb hd, expr-set, first-in f tab m n M small b d hb hd, first-set,
-          second-in f tab m n M small b d hb hd, second-set, e, h)
+          rw (
+            near,
+            low,
+            act,
+            act-set true h,
+            expr-in f tab m n M small b d hb hd,
+            expr-set,
+            first-in f tab m n M small b d hb hd,
+            first-set,
+            second-in f tab m n M small b d hb hd,
+            second-set,
+            e,
+            h,
+          )
           (after-set (setTo (word f (lookIn tab b + 6)) (operatorAt (getD f (lookIn tab b + 4) 0) d) σ (worthAt arr σ (within 32768 f (lookIn tab b + 8)))))
       set-by false h =
-          rw (near, low, act, act-set false h, expr-in f tab m n M small b d hb hd, expr-set, first-in f tab m n M small b d hb hd, first-set,
-          second-in f tab m n M small b d hb hd, second-set, e, h)
+          rw (
+            near,
+            low,
+            act,
+            act-set false h,
+            expr-in f tab m n M small b d hb hd,
+            expr-set,
+            first-in f tab m n M small b d hb hd,
+            first-set,
+            second-in f tab m n M small b d hb hd,
+            second-set,
+            e,
+            h,
+          )
           (after-set (setEntry f (lookIn tab b + 8) (word f (lookIn tab b + 6)) (operatorAt (getD f (lookIn tab b + 4) 0) d) arr σ))
 
   -- a SKIP
@@ -264,3 +288,164 @@ module _ (f tab arr m : List ℕ) (n : ℕ) (M : Maps f tab n m) (small : n ≤ 
     repeats : (z : ℕ) → onwardAt tab b d true ≡ wayTo (alongOf tab d z) d → repeatedIn s v m ≡ packedMove (repeatedOf S v z tab)
     unfolding repeatedIn repeatedOf
     repeats z Z = rw (nay, Z, yes, Y, own) (either (eqb v 0) (changedOf S (alongOf tab d z) 3) (poppedOf S (alongOf tab d b)))
+
+  -- the tests by kind and direction: what is left where the test holds or not, what the record does, and that both decide alike
+  module _ (e : K ≡ 5) where
+    if-yes : eqb d 0 ≡ true → onwardAt tab b d false ≡ wayTo (alongOf tab d b) d
+    unfolding onwardAt
+    if-yes D = rw (e, D)
+
+    if-no : eqb d 0 ≡ true → onwardAt tab b d true ≡ wayTo (alongOf tab d (lookIn tab (3072 + b))) d
+    unfolding onwardAt
+    if-no D = rw (e, D)
+
+    if-up-yes : eqb d 0 ≡ false → onwardAt tab b d false ≡ wayTo (alongOf tab d b) d
+    unfolding onwardAt
+    if-up-yes D = rw (e, D)
+
+    if-act : (t : Bool) → eqb d 0 ≡ t → actAt f tab b d ≡ cond t 5 7
+    unfolding actAt
+    if-act t D = rw (e, D)
+
+    if-tests : (t : Bool) → eqb d 0 ≡ t → (v : ℕ) → testedIn s (cond t 5 7) v m ≡ packedMove (testedOf S K v tab)
+    unfolding testedIn testedOf chosenOf
+    if-tests true D v =
+        rw (e, D)
+        (stops v (chosenIn s v m) (cond (eqb v 0) (pushedOf S (alongOf tab d (lookIn tab (3072 + b))) 1 H) (pushedOf S (alongOf tab d b) 0 H))
+        (chooses b (if-yes D) v (lookIn tab (3072 + b)) (if-no D)))
+    if-tests false D v = rw (e, D) (stops v (closedIn s v m) (closedOf S v tab) (closes (if-up-yes D) v))
+
+  module _ (e : K ≡ 7) where
+    fi-yes : eqb d 0 ≡ true → onwardAt tab b d false ≡ wayTo (alongOf tab d b) d
+    unfolding onwardAt
+    fi-yes D = rw (e, D)
+
+    fi-up-yes : eqb d 0 ≡ false → onwardAt tab b d false ≡ wayTo (alongOf tab d (lookIn tab (3072 + b))) d
+    unfolding onwardAt
+    fi-up-yes D = rw (e, D)
+
+    fi-up-no : eqb d 0 ≡ false → onwardAt tab b d true ≡ wayTo (alongOf tab d b) d
+    unfolding onwardAt
+    fi-up-no D = rw (e, D)
+
+    fi-act : (t : Bool) → eqb d 0 ≡ t → actAt f tab b d ≡ cond t 7 5
+    unfolding actAt
+    fi-act t D = rw (e, D)
+
+    fi-tests : (t : Bool) → eqb d 0 ≡ t → (v : ℕ) → testedIn s (cond t 7 5) v m ≡ packedMove (testedOf S K v tab)
+    unfolding testedIn testedOf chosenOf
+    fi-tests true D v = rw (e, D) (stops v (closedIn s v m) (closedOf S v tab) (closes (fi-yes D) v))
+    fi-tests false D v =
+        rw (e, D)
+        (stops v (chosenIn s v m) (cond (eqb v 0) (pushedOf S (alongOf tab d b) 1 H) (pushedOf S (alongOf tab d (lookIn tab (3072 + b))) 0 H))
+        (chooses (lookIn tab (3072 + b)) (fi-up-yes D) v b (fi-up-no D)))
+
+  module _ (e : K ≡ 8) where
+    from-yes : (t : Bool) → eqb d 0 ≡ t → onwardAt tab b d false ≡ wayTo (alongOf tab d b) d
+    unfolding onwardAt
+    from-yes true D = rw (e, D)
+    from-yes false D = rw (e, D)
+
+    from-up-no : eqb d 0 ≡ false → onwardAt tab b d true ≡ wayTo (alongOf tab d (lookIn tab (4096 + b))) d
+    unfolding onwardAt
+    from-up-no D = rw (e, D)
+
+    from-act : (t : Bool) → eqb d 0 ≡ t → actAt f tab b d ≡ cond t 8 10
+    unfolding actAt
+    from-act t D = rw (e, D)
+
+    from-tests : (t : Bool) → eqb d 0 ≡ t → (v : ℕ) → testedIn s (cond t 8 10) v m ≡ packedMove (testedOf S K v tab)
+    unfolding testedIn testedOf
+    from-tests true D v = rw (e, D) (stops v (openedIn s v m) (openedOf S v b tab) (opens b (from-yes true D) v))
+    from-tests false D v =
+        rw (e, D) (stops v (repeatedIn s v m) (repeatedOf S v (lookIn tab (4096 + b)) tab) (repeats (from-yes false D) v (lookIn tab (4096 + b)) (from-up-no D)))
+
+  module _ (e4 : eqb K 4 ≡ false) (e13 : eqb K 13 ≡ false) (e11 : eqb K 11 ≡ false) (e12 : eqb K 12 ≡ false) (e3 : leb K 3 ≡ false) where
+    module _ (e5 : eqb K 5 ≡ false) (e7 : eqb K 7 ≡ false) (e8 : eqb K 8 ≡ false) where
+      until-yes : eqb d 0 ≡ true → onwardAt tab b d false ≡ wayTo (alongOf tab d b) d
+      unfolding onwardAt
+      until-yes D = rw (e12, e4, e13, e11, e3, e5, e7, e8, D)
+
+      until-no : eqb d 0 ≡ true → onwardAt tab b d true ≡ wayTo (alongOf tab d (lookIn tab (3072 + b))) d
+      unfolding onwardAt
+      until-no D = rw (e12, e4, e13, e11, e3, e5, e7, e8, D)
+
+      until-up-yes : eqb d 0 ≡ false → onwardAt tab b d false ≡ wayTo (alongOf tab d (lookIn tab (3072 + b))) d
+      unfolding onwardAt
+      until-up-yes D = rw (e12, e4, e13, e11, e3, e5, e7, e8, D)
+
+      until-act : (t : Bool) → eqb d 0 ≡ t → actAt f tab b d ≡ cond t 10 8
+      unfolding actAt
+      until-act t D = rw (e4, e13, e11, e12, e3, e5, e7, e8, D)
+
+      until-tests : (t : Bool) → eqb d 0 ≡ t → (v : ℕ) → testedIn s (cond t 10 8) v m ≡ packedMove (testedOf S K v tab)
+      unfolding testedIn testedOf
+      until-tests true D v =
+          rw (e5, e7, e8, D)
+          (stops v (repeatedIn s v m) (repeatedOf S v (lookIn tab (3072 + b)) tab) (repeats (until-yes D) v (lookIn tab (3072 + b)) (until-no D)))
+      until-tests false D v =
+          rw (e5, e7, e8, D) (stops v (openedIn s v m) (openedOf S v (lookIn tab (3072 + b)) tab) (opens (lookIn tab (3072 + b)) (until-up-yes D) v))
+
+    module _ (ho : lookIn tab b < 32768) where
+      expr-test : exprAt tab b ≡ lookIn tab b + 4
+      unfolding exprAt
+      expr-test = rw (lt-ltb (lookIn tab b) 32768 ho, e4)
+
+      -- a record that tests does one of these
+      abbrev Tests : ℕ → Type 0
+      Tests a = (actAt f tab b d ≡ a) × ((v : ℕ) → testedIn s a v m ≡ packedMove (testedOf S K v tab))
+
+      testing : (a : ℕ) → eqb a 4 ≡ false → eqb a 6 ≡ false → eqb a 13 ≡ false → eqb a 11 ≡ false → eqb a 3 ≡ false → Tests a → Agree
+      unfolding ruleIn ruleOf
+      testing a a4 a6 a13 a11 a3 T =
+          rw (near, low, act, T .0, a4, a6, a13, a11, a3, e4, e13, e11, e12, e3, expr-in f tab m n M small b d hb hd, expr-test)
+          (by-move _ _ (T .1 (truthOf (worthAt arr σ (within 32768 f (lookIn tab b + 4))))))
+
+      by-8 : eqb K 5 ≡ false → eqb K 7 ≡ false → (t u : Bool) → eqb K 8 ≡ t → eqb d 0 ≡ u → Agree
+      by-8 e5 e7 true true h D = testing 8 refl refl refl refl refl (from-act (eqb-true K 8 h) true D, from-tests (eqb-true K 8 h) true D)
+      by-8 e5 e7 true false h D = testing 10 refl refl refl refl refl (from-act (eqb-true K 8 h) false D, from-tests (eqb-true K 8 h) false D)
+      by-8 e5 e7 false true h D = testing 10 refl refl refl refl refl (until-act e5 e7 h true D, until-tests e5 e7 h true D)
+      by-8 e5 e7 false false h D = testing 8 refl refl refl refl refl (until-act e5 e7 h false D, until-tests e5 e7 h false D)
+
+      by-7 : eqb K 5 ≡ false → (t u : Bool) → eqb K 7 ≡ t → eqb d 0 ≡ u → Agree
+      by-7 e5 true true h D = testing 7 refl refl refl refl refl (fi-act (eqb-true K 7 h) true D, fi-tests (eqb-true K 7 h) true D)
+      by-7 e5 true false h D = testing 5 refl refl refl refl refl (fi-act (eqb-true K 7 h) false D, fi-tests (eqb-true K 7 h) false D)
+      by-7 e5 false u h D = by-8 e5 h (eqb K 8) u refl D
+
+      by-5 : (t u : Bool) → eqb K 5 ≡ t → eqb d 0 ≡ u → Agree
+      by-5 true true h D = testing 5 refl refl refl refl refl (if-act (eqb-true K 5 h) true D, if-tests (eqb-true K 5 h) true D)
+      by-5 true false h D = testing 7 refl refl refl refl refl (if-act (eqb-true K 5 h) false D, if-tests (eqb-true K 5 h) false D)
+      by-5 false u h D = by-7 h (eqb K 7) u refl D
+
+  -- ---- the other kinds
+  module _ (ho : lookIn tab b < 32768) (hl : label < n) where
+    module _ (e4 : eqb K 4 ≡ false) (e13 : eqb K 13 ≡ false) (e11 : eqb K 11 ≡ false) (e12 : eqb K 12 ≡ false) where
+      act-return : leb K 3 ≡ true → actAt f tab b d ≡ 3
+      unfolding actAt
+      act-return h = rw (e4, e13, e11, e12, h)
+
+      by-3 : (t : Bool) → leb K 3 ≡ t → Agree
+      unfolding ruleIn ruleOf
+      by-3 true h = rw (near, low, act, act-return h, e4, e13, e11, e12, h) (by-move _ _ (returning hl))
+      by-3 false h = by-5 e4 e13 e11 e12 h ho (eqb K 5) (eqb d 0) refl refl
+
+    by-12 : eqb K 4 ≡ false → eqb K 13 ≡ false → eqb K 11 ≡ false → (t : Bool) → eqb K 12 ≡ t → Agree
+    by-12 e4 e13 e11 true h = uncalling (eqb-true K 12 h)
+    by-12 e4 e13 e11 false h = by-3 e4 e13 e11 h (leb K 3) refl
+
+    by-11 : eqb K 4 ≡ false → eqb K 13 ≡ false → (t : Bool) → eqb K 11 ≡ t → Agree
+    by-11 e4 e13 true h = calling (eqb-true K 11 h)
+    by-11 e4 e13 false h = by-12 e4 e13 h (eqb K 12) refl
+
+    by-13 : eqb K 4 ≡ false → (t : Bool) → eqb K 13 ≡ t → Agree
+    by-13 e4 true h = skips (eqb-true K 13 h)
+    by-13 e4 false h = by-11 e4 h (eqb K 11) refl
+
+    by-4 : (t : Bool) → eqb K 4 ≡ t → Agree
+    by-4 true h = set-by (eqb-true K 4 h) ho (eqb (getD f (lookIn tab b + 5) 0) 0) refl
+    by-4 false h = by-13 h (eqb K 13) refl
+
+pub mapped : (f tab arr m : List ℕ) (n : ℕ) → Maps f tab n m → n ≤ 1024 → (S : Seen) → S .b < n → S .direction < 2 → S .label < n → lookIn tab (S .b) < 32768 → (σ : Store)
+    → ruleIn f m arr (sightOf S) σ ≡ packed (ruleOf f tab arr S σ)
+mapped f tab arr m n M small S hb hd hl ho σ =
+    by-4 f tab arr m n M small σ (S .b) (S .direction) (S .calls) (S .count) (S .kind) (S .label) hb hd ho hl (eqb (lookIn tab (1024 + S .b)) 4) refl
