@@ -1,8 +1,8 @@
 -- The answers of the functions of src/lib.rt, case by case, over plain numbers and lists. Assumes nothing.
 use mathlib.Core.Path.{_≡_, refl, ap, _∙_}
 use mathlib.Core.List.{List}
-use mathlib.Core.Bool.{Bool, true, false, cond}
-use Prim.Native.Nat.{ℕ, zero, suc, _+_, _-_, _≤_, _<_}
+use mathlib.Core.Bool.{Bool, true, false, cond, Bool·beq as same}
+use Prim.Native.Nat.{ℕ, zero, suc, _+_, _-_, _*_, _/_, _≤_, _<_}
 use native.Mathlib.Omega.{arith}
 use borrow.Author.Tests.{eq-eqb, ne-eqb, lt-ltb, le-ltb, le-leb, lt-leb}
 use lib.Dec.{eqb}
@@ -13,12 +13,13 @@ use mir.Syntax.{w32, w64}
 use mir.Val.{SFits, ofZ, toZ}
 use mir.Facts.{toZ-ofZ}
 use Rattle.expr.specs.Tree.{Fault, byZero, badIndex as outside, value, stop}
-use Rattle.expr.specs.Bytes.{parse}
-use Rattle.expr.specs.Answers.{worthAt, WorthSays}
+use Rattle.expr.specs.Bytes.{within}
+use Rattle.expr.specs.Answers.{worthAt, Packs}
 use Rattle.place.specs.Methods.{topAt}
 use Rattle.moves.specs.Stores.{Answer, ok, no, number, reasonOf, Store}
-use Rattle.decide.specs.Sets.{faultOf, Leaves, setAt}
-use Rattle.decide.specs.Decide.{Seen, seenBy, seen, byKind, byLabel, bare, lookIn, moreOf, otherOf, alongOf, truthOf, refusedOf, keptOf, pushedOf, poppedOf, changedOf, chosenOf, closedOf, againOf, openedOf, repeatedOf, gateOf, enteredTo, ledOf, backOf, returnedOf, testedOf, assignedOf, moving, afterSet, Rules, ruleOf}
+use Rattle.decide.specs.Sets.{faultOf, Leaves, setEntry}
+use Rattle.decide.specs.Decide.{lookIn, moreOf, otherOf, alongOf, gateOf, truthOf}
+use Rattle.decide.specs.Ways.{wayTo, labelIn, sideIn, sightBy, sight, byKind, byLabel, bare, actIn, yesIn, noIn, firstIn, secondIn, exprIn, headIn, moving, refusedIn, keptIn, pushedIn, poppedIn, changedIn, chosenIn, closedIn, againIn, openedIn, repeatedIn, enteredIn, backIn, returnedIn, testedIn, assignedIn, afterSet, setCell, Rules, ruleIn}
 use Rattle.decide.specs.declared.Spot.{Spot}
 use Rattle.decide.specs.declared.Move.{Move}
 use Rattle.decide.proofs.SetCases.{is-stop, is-value}
@@ -68,6 +69,28 @@ module _ (tab : List ℕ) (d y r : ℕ) where
   pub gate-up : (d ≡ 0 → ⊥) → r ≡ lookIn tab (9280 + y) → r ≡ gateOf tab y d
   gate-up e h = rw (ne-eqb d 0 e) h
 
+module _ (b d : ℕ) where
+  pub way-down : d ≡ 0 → b ≡ wayTo b d
+  unfolding wayTo
+  way-down e = rw (eq-eqb d 0 e)
+
+  pub way-up : (d ≡ 0 → ⊥) → b < 1024 → b + 1024 ≡ wayTo b d
+  unfolding wayTo
+  way-up e h = rw (ne-eqb d 0 e, lt-ltb b 1024 h)
+
+  pub way-far : (d ≡ 0 → ⊥) → 1024 ≤ b → b ≡ wayTo b d
+  unfolding wayTo
+  way-far e h = rw (ne-eqb d 0 e, le-ltb b 1024 h)
+
+pub side-down : (w : ℕ) → w < 1024 → 0 ≡ sideIn w
+side-down w h = rw (lt-ltb w 1024 h)
+
+pub side-up : (w : ℕ) → 1024 ≤ w → 1 ≡ sideIn w
+side-up w h = rw (le-ltb w 1024 h)
+
+pub entry-is : (m : List ℕ) (n w x r : ℕ) → r ≡ x → x ≡ getD m (n + w) 0 → r ≡ getD m (n + w) 0
+entry-is m n w x r e h = e ∙ h
+
 pub gate-far : (tab : List ℕ) (q d : ℕ) → 128 ≤ q → 0 ≡ gateOf tab q d
 unfolding lookIn
 gate-far tab q d h = rw (le-ltb (9216 + q) 9344 (omega arith), le-ltb (9280 + q) 9344 (omega arith)) (go (eqb d 0))
@@ -76,7 +99,7 @@ gate-far tab q d h = rw (le-ltb (9216 + q) 9344 (omega arith), le-ltb (9280 + q)
     go true = refl
     go false = refl
 
-pub ruleset smalls = (look-near, look-far, part-is, offset-is, more-yes, more-no, other-down, other-up, along-down, along-up, gate-far, gate-down, gate-up)
+pub ruleset smalls = (look-near, look-far, part-is, offset-is, more-yes, more-no, other-down, other-up, along-down, along-up, gate-far, gate-down, gate-up, way-down, way-up, way-far, side-down, side-up, entry-is)
 
 -- ---- `truth`
 zero-bits : (r : ℤ) → SFits w32 r → ofZ w64 r ≡ 0 → r ≡ pos 0
@@ -92,329 +115,241 @@ fault-number : (g : Fault) → number (reasonOf g) ≡ truthOf (stop g)
 fault-number byZero = refl
 fault-number outside = refl
 
--- the expression stands four bytes on
-module _ (r : ℤ) (fits : SFits w64 r) (f arr : List ℕ) (cs : List ℤ) (at w after : ℕ) (says : WorthSays arr cs (w + 4) (parse 16 f (w + 4)) r after) (ww : w ≡ at) where
-  pub truth-stop : (n : ℕ) → ltZ (pos 2147483647) (again64 r) ≡ true → n ≡ faultOf (ofZ w64 (again64 r)) → n ≡ truthOf (worthAt arr cs (parse 16 f (at + 4)))
+module _ (r : ℤ) (fits : SFits w64 r) (f arr : List ℕ) (cs : List ℤ) (at : ℕ) (says : Packs (worthAt arr cs (within 32768 f at)) r) where
+  pub truth-stop : (n : ℕ) → ltZ (pos 2147483647) (again64 r) ≡ true → n ≡ faultOf (ofZ w64 (again64 r)) → n ≡ truthOf (worthAt arr cs (within 32768 f at))
   truth-stop n t e =
-      let s = is-stop r fits (worthAt arr cs (parse 16 f (w + 4))) (says .answer) (says .range) t in
-      rw (← ww, s .1) (e ∙ ap (λ z. faultOf (ofZ w64 z)) (toZ-ofZ fits) ∙ s .2 ∙ fault-number (s .0))
+      let s = is-stop r fits (worthAt arr cs (within 32768 f at)) (says .answer) (says .range) t in
+      rw (s .1) (e ∙ ap (λ z. faultOf (ofZ w64 z)) (toZ-ofZ fits) ∙ s .2 ∙ fault-number (s .0))
 
-  pub truth-zero : ltZ (pos 2147483647) (again64 r) ≡ false → ofZ w64 r ≡ 0 → 0 ≡ truthOf (worthAt arr cs (parse 16 f (at + 4)))
+  pub truth-zero : ltZ (pos 2147483647) (again64 r) ≡ false → ofZ w64 r ≡ 0 → 0 ≡ truthOf (worthAt arr cs (within 32768 f at))
   truth-zero t e =
-      let s = is-value r fits (worthAt arr cs (parse 16 f (w + 4))) (says .answer) (says .range) t in
-      rw (← ww, s .0, zero-bits r (s .1) e)
+      let s = is-value r fits (worthAt arr cs (within 32768 f at)) (says .answer) (says .range) t in
+      rw (s .0, zero-bits r (s .1) e)
 
-  pub truth-one : ltZ (pos 2147483647) (again64 r) ≡ false → (ofZ w64 r ≡ 0 → ⊥) → 1 ≡ truthOf (worthAt arr cs (parse 16 f (at + 4)))
+  pub truth-one : ltZ (pos 2147483647) (again64 r) ≡ false → (ofZ w64 r ≡ 0 → ⊥) → 1 ≡ truthOf (worthAt arr cs (within 32768 f at))
   truth-one t e =
-      let s = is-value r fits (worthAt arr cs (parse 16 f (w + 4))) (says .answer) (says .range) t in
-      rw (← ww, s .0) (true-bits r e)
+      let s = is-value r fits (worthAt arr cs (within 32768 f at)) (says .answer) (says .range) t in
+      rw (s .0) (true-bits r e)
 
 pub ruleset truths = (truth-stop, truth-zero, truth-one)
 
 -- ---- the frames
-module _ (s : Spot) (y k l n : ℕ) where
-  pub pushed-is : n ≡ moreOf (s .count) → moving 0 (s .direction) (s .b) y (s .calls) n (s .count) k l ≡ pushedOf (seenBy s 9 0) y k l
-  pushed-is e = rw e
+module _ (s : Spot) (y k l n a : ℕ) (aa : a ≡ labelIn (s .way)) where
+  pub kept-is : moving 0 y a (s .calls) (s .count) 1104 0 0 ≡ keptIn (bare s) y
+  kept-is = rw aa
 
-  pub popped-is : n ≡ s .count - 1 → moving 0 (s .direction) (s .b) y (s .calls) n n 0 0 ≡ poppedOf (seenBy s 9 0) y
-  popped-is e = rw e
+  pub pushed-is : n ≡ moreOf (s .count) → moving 0 y a (s .calls) n (s .count) k l ≡ pushedIn (bare s) y k l
+  pushed-is e = rw (aa, e)
 
-  pub changed-is : (ls : List ℕ) → n ≡ s .count - 1 → l ≡ topAt ls (s .count) 0
-      → moving 0 (s .direction) (s .b) y (s .calls) (s .count) n k l ≡ changedOf (byLabel s ls) y k
+  pub popped-is : n ≡ s .count - 1 → moving 0 y a (s .calls) n n 0 0 ≡ poppedIn (bare s) y
+  popped-is e = rw (aa, e)
+
+  pub changed-is : (ls : List ℕ) → n ≡ s .count - 1 → l ≡ topAt ls (s .count) 0 → moving 0 y a (s .calls) (s .count) n k l ≡ changedIn (byLabel s ls) y k
   unfolding byLabel
-  changed-is ls e ll = rw (e, ll)
+  changed-is ls e ll = rw (aa, e, ll)
 
-pub ruleset frames = (pushed-is, popped-is, changed-is)
+pub ruleset frames = (kept-is, pushed-is, popped-is, changed-is)
 
 -- ---- the acts
-module _ (s : Spot) (v : ℕ) (tab : List ℕ) (m : Move) where
-  module _ (next head : ℕ) (hh : head ≡ lookIn tab (2048 + s .b)) where
-    pub chosen-else : v ≡ 0 → s .direction ≡ 0 → m ≡ pushedOf (seenBy s 9 0) next 1 head → (middle : ℕ) → middle ≡ lookIn tab (3072 + s .b)
-        → next ≡ alongOf tab (s .direction) middle → m ≡ chosenOf (bare s) v tab
-    unfolding chosenOf bare
-    chosen-else e d h middle mm n = rw (eq-eqb v 0 e, eq-eqb (s .direction) 0 d, ← mm, ← n, ← hh) h
+module _ (s : Spot) (v : ℕ) (map : List ℕ) (m : Move) where
+  module _ (next head : ℕ) (hh : head ≡ headIn map (s .way)) where
+    pub chosen-else : v ≡ 0 → m ≡ pushedIn (bare s) next 1 head → next ≡ noIn map (s .way) → m ≡ chosenIn (bare s) v map
+    unfolding chosenIn
+    chosen-else e h n = rw (eq-eqb v 0 e, ← n, ← hh) h
 
-    pub chosen-else-up : v ≡ 0 → (s .direction ≡ 0 → ⊥) → m ≡ pushedOf (seenBy s 9 0) next 1 head → next ≡ alongOf tab (s .direction) (s .b)
-        → m ≡ chosenOf (bare s) v tab
-    unfolding chosenOf bare
-    chosen-else-up e d h n = rw (eq-eqb v 0 e, ne-eqb (s .direction) 0 d, ← n, ← hh) h
-
-    pub chosen-then : (v ≡ 0 → ⊥) → s .direction ≡ 0 → m ≡ pushedOf (seenBy s 9 0) next 0 head → next ≡ alongOf tab (s .direction) (s .b)
-        → m ≡ chosenOf (bare s) v tab
-    unfolding chosenOf bare
-    chosen-then e d h n = rw (ne-eqb v 0 e, eq-eqb (s .direction) 0 d, ← n, ← hh) h
-
-    pub chosen-then-up : (v ≡ 0 → ⊥) → (s .direction ≡ 0 → ⊥) → m ≡ pushedOf (seenBy s 9 0) next 0 head → (middle : ℕ) → middle ≡ lookIn tab (3072 + s .b)
-        → next ≡ alongOf tab (s .direction) middle → m ≡ chosenOf (bare s) v tab
-    unfolding chosenOf bare
-    chosen-then-up e d h middle mm n = rw (ne-eqb v 0 e, ne-eqb (s .direction) 0 d, ← mm, ← n, ← hh) h
+    pub chosen-then : (v ≡ 0 → ⊥) → m ≡ pushedIn (bare s) next 0 head → next ≡ yesIn map (s .way) → m ≡ chosenIn (bare s) v map
+    unfolding chosenIn
+    chosen-then e h n = rw (ne-eqb v 0 e, ← n, ← hh) h
 
   module _ (ks : List ℕ) (k : ℕ) (kk : k ≡ topAt ks (s .count) 9) where
-    pub closed-0-0 : v ≡ 0 → k ≡ 0 → m ≡ refusedOf (seenBy s 9 0) 31 → m ≡ closedOf (byKind s ks) v tab
-    unfolding closedOf byKind
-    closed-0-0 e z h = rw (eq-eqb v 0 e, ← kk, eq-eqb k 0 z) h
+    pub closed-no : same (eqb v 0) (eqb k 0) ≡ true → m ≡ refusedIn (bare s) 31 → m ≡ closedIn (byKind s ks) v map
+    unfolding closedIn byKind
+    closed-no t h = rw (← kk, t) h
 
-    pub closed-0-1 : v ≡ 0 → (k ≡ 0 → ⊥) → (next : ℕ) → m ≡ poppedOf (seenBy s 9 0) next → next ≡ alongOf tab (s .direction) (s .b) → m ≡ closedOf (byKind s ks) v tab
-    unfolding closedOf byKind
-    closed-0-1 e z next h n = rw (eq-eqb v 0 e, ← kk, ne-eqb k 0 z, ← n) h
+    pub closed-yes : same (eqb v 0) (eqb k 0) ≡ false → (next : ℕ) → m ≡ poppedIn (bare s) next → next ≡ yesIn map (s .way) → m ≡ closedIn (byKind s ks) v map
+    unfolding closedIn byKind
+    closed-yes t next h n = rw (← kk, t, ← n) h
 
-    pub closed-1-0 : (v ≡ 0 → ⊥) → k ≡ 0 → (next : ℕ) → m ≡ poppedOf (seenBy s 9 0) next → next ≡ alongOf tab (s .direction) (s .b) → m ≡ closedOf (byKind s ks) v tab
-    unfolding closedOf byKind
-    closed-1-0 e z next h n = rw (ne-eqb v 0 e, ← kk, eq-eqb k 0 z, ← n) h
-
-    pub closed-1-1 : (v ≡ 0 → ⊥) → (k ≡ 0 → ⊥) → m ≡ refusedOf (seenBy s 9 0) 31 → m ≡ closedOf (byKind s ks) v tab
-    unfolding closedOf byKind
-    closed-1-1 e z h = rw (ne-eqb v 0 e, ← kk, ne-eqb k 0 z) h
-
-  module _ (ks ls : List ℕ) (y next head : ℕ) (g : Bool) (gg : g ≡ againOf (seen s ks ls) head) (hh : head ≡ lookIn tab (2048 + s .b))
-      (nn : next ≡ alongOf tab (s .direction) y) where
-    pub opened-again : g ≡ true → v ≡ 0 → m ≡ changedOf (byLabel s ls) next 2 → m ≡ openedOf (seen s ks ls) v y tab
-    unfolding openedOf seen byLabel
+  module _ (ks ls : List ℕ) (next head : ℕ) (g : Bool) (gg : g ≡ againIn (sight s ks ls) head) (hh : head ≡ headIn map (s .way))
+      (nn : next ≡ yesIn map (s .way)) where
+    pub opened-again : g ≡ true → v ≡ 0 → m ≡ changedIn (byLabel s ls) next 2 → m ≡ openedIn (sight s ks ls) v map
+    unfolding openedIn sight byLabel
     opened-again t e h = rw (← hh, ← gg, t, eq-eqb v 0 e, ← nn) h
 
-    pub opened-wrong : g ≡ true → (v ≡ 0 → ⊥) → m ≡ refusedOf (seenBy s 9 0) 31 → m ≡ openedOf (seen s ks ls) v y tab
-    unfolding openedOf seen
+    pub opened-wrong : g ≡ true → (v ≡ 0 → ⊥) → m ≡ refusedIn (bare s) 31 → m ≡ openedIn (sight s ks ls) v map
+    unfolding openedIn sight
     opened-wrong t e h = rw (← hh, ← gg, t, ne-eqb v 0 e) h
 
-    pub opened-false : g ≡ false → v ≡ 0 → m ≡ refusedOf (seenBy s 9 0) 31 → m ≡ openedOf (seen s ks ls) v y tab
-    unfolding openedOf seen
+    pub opened-false : g ≡ false → v ≡ 0 → m ≡ refusedIn (bare s) 31 → m ≡ openedIn (sight s ks ls) v map
+    unfolding openedIn sight
     opened-false t e h = rw (← hh, ← gg, t, eq-eqb v 0 e) h
 
-    pub opened-true : g ≡ false → (v ≡ 0 → ⊥) → m ≡ pushedOf (seenBy s 9 0) next 2 head → m ≡ openedOf (seen s ks ls) v y tab
-    unfolding openedOf seen
+    pub opened-true : g ≡ false → (v ≡ 0 → ⊥) → m ≡ pushedIn (bare s) next 2 head → m ≡ openedIn (sight s ks ls) v map
+    unfolding openedIn sight
     opened-true t e h = rw (← hh, ← gg, t, ne-eqb v 0 e, ← nn) h
 
-  module _ (ls : List ℕ) (y next : ℕ) where
-    pub repeated-false : v ≡ 0 → m ≡ changedOf (byLabel s ls) next 3 → next ≡ alongOf tab (s .direction) y → m ≡ repeatedOf (byLabel s ls) v y tab
-    unfolding repeatedOf byLabel
+  module _ (ls : List ℕ) (next : ℕ) where
+    pub repeated-false : v ≡ 0 → m ≡ changedIn (byLabel s ls) next 3 → next ≡ noIn map (s .way) → m ≡ repeatedIn (byLabel s ls) v map
+    unfolding repeatedIn byLabel
     repeated-false e h n = rw (eq-eqb v 0 e, ← n) h
 
-    pub repeated-true : (v ≡ 0 → ⊥) → m ≡ poppedOf (seenBy s 9 0) next → next ≡ alongOf tab (s .direction) (s .b) → m ≡ repeatedOf (byLabel s ls) v y tab
-    unfolding repeatedOf byLabel
+    pub repeated-true : (v ≡ 0 → ⊥) → m ≡ poppedIn (bare s) next → next ≡ yesIn map (s .way) → m ≡ repeatedIn (byLabel s ls) v map
+    unfolding repeatedIn byLabel
     repeated-true e h n = rw (ne-eqb v 0 e, ← n) h
 
 module _ (s : Spot) (ks ls : List ℕ) (h k : ℕ) where
-  pub again-yes : (l : ℕ) → k ≡ 3 → k ≡ topAt ks (s .count) 9 → l ≡ topAt ls (s .count) 0 → eqb l h ≡ againOf (seen s ks ls) h
-  unfolding seen
+  pub again-yes : (l : ℕ) → k ≡ 3 → k ≡ topAt ks (s .count) 9 → l ≡ topAt ls (s .count) 0 → eqb l h ≡ againIn (sight s ks ls) h
+  unfolding sight
   again-yes l e kk ll = rw (← kk, eq-eqb k 3 e, ll)
 
-  pub again-no : (k ≡ 3 → ⊥) → k ≡ topAt ks (s .count) 9 → false ≡ againOf (seen s ks ls) h
-  unfolding seen
+  pub again-no : (k ≡ 3 → ⊥) → k ≡ topAt ks (s .count) 9 → false ≡ againIn (sight s ks ls) h
+  unfolding sight
   again-no e kk = rw (← kk, ne-eqb k 3 e)
 
-pub ruleset acts = (chosen-else, chosen-else-up, chosen-then, chosen-then-up, closed-0-0, closed-0-1, closed-1-0, closed-1-1, opened-again, opened-wrong, opened-false, opened-true, repeated-false, repeated-true, again-yes, again-no)
+pub ruleset acts = (chosen-else, chosen-then, closed-no, closed-yes, opened-again, opened-wrong, opened-false, opened-true, repeated-false, repeated-true, again-yes, again-no)
 
-module _ (s : Spot) (a b d : ℕ) where
-  pub entered-no : (m : Move) → 64 ≤ s .calls → m ≡ refusedOf (seenBy s 9 0) 34 → m ≡ enteredTo (bare s) a b d
-  unfolding enteredTo bare
+-- ---- calls and returns
+module _ (s : Spot) (map : List ℕ) where
+  pub entered-no : (m : Move) → 64 ≤ s .calls → m ≡ refusedIn (bare s) 34 → m ≡ enteredIn (bare s) map
+  unfolding enteredIn
   entered-no m h e = rw (le-leb 64 (s .calls) h) e
 
-  pub entered-yes : (n : ℕ) → s .calls < 64 → n ≡ moreOf (s .count) → moving 0 d a b (s .calls + 1) n (s .count) 4 (s .b) ≡ enteredTo (bare s) a b d
-  unfolding enteredTo bare
-  entered-yes n h nn = rw (lt-leb 64 (s .calls) h, nn)
+  pub entered-yes : (n a l w x : ℕ) → s .calls < 64 → n ≡ moreOf (s .count) → a ≡ firstIn map (s .way) → l ≡ labelIn (s .way) → w ≡ x → x ≡ secondIn map (s .way)
+      → moving 0 w a (s .calls + 1) n (s .count) 4 l ≡ enteredIn (bare s) map
+  unfolding enteredIn
+  entered-yes n a l w x h nn aa ll ww xx = rw (lt-leb 64 (s .calls) h, nn, aa, ll, ww, xx)
 
-module _ (s : Spot) (d : ℕ) (m : Move) where
-  pub called-is : (g : List ℕ) (x : ℕ) → m ≡ enteredTo (bare s) (getD g x 0) (getD g (x + 1024) 0) d → x ≡ s .b
-      → m ≡ enteredTo (bare s) (getD g (s .b) 0) (getD g (s .b + 1024) 0) d
-  called-is g x h e = h ∙ ap (λ (y : ℕ). enteredTo (bare s) (getD g y 0) (getD g (y + 1024) 0) d) e
+  pub back-is : (l x w n : ℕ) → w ≡ yesIn map (x + s .way / 1024 * 1024) → x ≡ l → n ≡ s .count - 1
+      → moving 0 w l (s .calls - 1) n n 0 0 ≡ backIn (bare s) l map
+  back-is l x w n ww xx nn = rw (ww, xx, nn)
 
-  module _ (downs ups : List ℕ) where
-    pub led-down : d ≡ 0 → m ≡ enteredTo (bare s) (getD downs (s .b) 0) (getD downs (s .b + 1024) 0) d → m ≡ ledOf (bare s) d downs ups
-    unfolding ledOf bare
-    led-down e h = rw (eq-eqb d 0 e) h
-
-    pub led-up : (d ≡ 0 → ⊥) → m ≡ enteredTo (bare s) (getD ups (s .b) 0) (getD ups (s .b + 1024) 0) d → m ≡ ledOf (bare s) d downs ups
-    unfolding ledOf bare
-    led-up e h = rw (ne-eqb d 0 e) h
-
-pub back-is : (s : Spot) (tab : List ℕ) (d l b n : ℕ) → b ≡ alongOf tab d l → n ≡ s .count - 1 → moving 0 d l b (s .calls - 1) n n 0 0 ≡ backOf (seenBy s 9 0) d l tab
-back-is s tab d l b n bb nn = rw (bb, nn)
-
-module _ (s : Spot) (tab : List ℕ) where
   module _ (ls : List ℕ) (m : Move) where
-    pub returned-no : s .calls ≡ 0 → m ≡ refusedOf (seenBy s 9 0) 30 → m ≡ returnedOf (byLabel s ls) tab
-    unfolding returnedOf byLabel
+    pub returned-no : s .calls ≡ 0 → m ≡ refusedIn (bare s) 30 → m ≡ returnedIn (byLabel s ls) map
+    unfolding returnedIn byLabel
     returned-no h e = rw (eq-eqb (s .calls) 0 h) e
 
-    -- "the opposite direction from an UNCALL"
-    module _ (nz : s .calls ≡ 0 → ⊥) (k l : ℕ) where
-      pub returned-turn : k ≡ 12 → s .direction ≡ 0 → m ≡ backOf (seenBy s 9 0) 1 l tab → k ≡ lookIn tab (1024 + l) → l ≡ topAt ls (s .count) 0
-          → m ≡ returnedOf (byLabel s ls) tab
-      unfolding returnedOf byLabel
-      returned-turn e d h kk ll = rw (ne-eqb (s .calls) 0 nz, ← ll, ← kk, eq-eqb k 12 e, eq-eqb (s .direction) 0 d) h
+    module _ (nz : s .calls ≡ 0 → ⊥) (l : ℕ) where
+      pub returned-far : 1024 ≤ l → m ≡ refusedIn (bare s) 21 → l ≡ topAt ls (s .count) 0 → m ≡ returnedIn (byLabel s ls) map
+      unfolding returnedIn byLabel
+      returned-far h e ll = rw (ne-eqb (s .calls) 0 nz, ← ll, le-ltb l 1024 h) e
 
-      pub returned-turn-up : k ≡ 12 → (s .direction ≡ 0 → ⊥) → m ≡ backOf (seenBy s 9 0) 0 l tab → k ≡ lookIn tab (1024 + l) → l ≡ topAt ls (s .count) 0
-          → m ≡ returnedOf (byLabel s ls) tab
-      unfolding returnedOf byLabel
-      returned-turn-up e d h kk ll = rw (ne-eqb (s .calls) 0 nz, ← ll, ← kk, eq-eqb k 12 e, ne-eqb (s .direction) 0 d) h
-
-      pub returned-on : (k ≡ 12 → ⊥) → s .direction ≡ 0 → m ≡ backOf (seenBy s 9 0) 0 l tab → k ≡ lookIn tab (1024 + l) → l ≡ topAt ls (s .count) 0
-          → m ≡ returnedOf (byLabel s ls) tab
-      unfolding returnedOf byLabel
-      returned-on e d h kk ll = rw (ne-eqb (s .calls) 0 nz, ← ll, ← kk, ne-eqb k 12 e, d) h
-
-      pub returned-on-up : (k ≡ 12 → ⊥) → m ≡ backOf (seenBy s 9 0) (s .direction) l tab → k ≡ lookIn tab (1024 + l) → l ≡ topAt ls (s .count) 0
-          → m ≡ returnedOf (byLabel s ls) tab
-      unfolding returnedOf byLabel
-      returned-on-up e h kk ll = rw (ne-eqb (s .calls) 0 nz, ← ll, ← kk, ne-eqb k 12 e) h
+      pub returned-on : l < 1024 → m ≡ backIn (bare s) l map → l ≡ topAt ls (s .count) 0 → m ≡ returnedIn (byLabel s ls) map
+      unfolding returnedIn byLabel
+      returned-on h e ll = rw (ne-eqb (s .calls) 0 nz, ← ll, lt-ltb l 1024 h) e
 
   module _ (n : ℕ) (m : Move) where
-    pub assigned-done : (next : ℕ) → n ≡ 0 → m ≡ keptOf (seenBy s 9 0) next → next ≡ alongOf tab (s .direction) (s .b) → m ≡ assignedOf (seenBy s 9 0) n tab
+    pub assigned-done : (next : ℕ) → n ≡ 0 → m ≡ keptIn (bare s) next → next ≡ yesIn map (s .way) → m ≡ assignedIn (bare s) n map
     assigned-done next e h k = rw (eq-eqb n 0 e, ← k) h
 
-    pub assigned-not : (n ≡ 0 → ⊥) → m ≡ refusedOf (seenBy s 9 0) n → m ≡ assignedOf (seenBy s 9 0) n tab
+    pub assigned-not : (n ≡ 0 → ⊥) → m ≡ refusedIn (bare s) n → m ≡ assignedIn (bare s) n map
     assigned-not e h = rw (ne-eqb n 0 e) h
 
-pub ruleset calls = (entered-no, entered-yes, called-is, led-down, led-up, back-is, returned-no, returned-turn, returned-turn-up, returned-on, returned-on-up, assigned-done, assigned-not)
+pub ruleset calls = (entered-no, entered-yes, back-is, returned-no, returned-far, returned-on, assigned-done, assigned-not)
 
 -- ---- what asks for less than the whole frame answers the same of it
-module _ (s : Spot) (ks ls : List ℕ) (tab : List ℕ) where
-  chosen-same : (v : ℕ) → chosenOf (bare s) v tab ≡ chosenOf (seen s ks ls) v tab
-  unfolding chosenOf bare seen
+module _ (s : Spot) (ks ls : List ℕ) (map : List ℕ) where
+  chosen-same : (v : ℕ) → chosenIn (bare s) v map ≡ chosenIn (sight s ks ls) v map
+  unfolding chosenIn sight
   chosen-same v = refl
 
-  closed-same : (v : ℕ) → closedOf (byKind s ks) v tab ≡ closedOf (seen s ks ls) v tab
-  unfolding closedOf byKind seen
+  closed-same : (v : ℕ) → closedIn (byKind s ks) v map ≡ closedIn (sight s ks ls) v map
+  unfolding closedIn byKind sight
   closed-same v = refl
 
-  repeated-same : (v y : ℕ) → repeatedOf (byLabel s ls) v y tab ≡ repeatedOf (seen s ks ls) v y tab
-  unfolding repeatedOf byLabel seen
-  repeated-same v y = refl
+  repeated-same : (v : ℕ) → repeatedIn (byLabel s ls) v map ≡ repeatedIn (sight s ks ls) v map
+  unfolding repeatedIn byLabel sight
+  repeated-same v = refl
 
-  returned-same : returnedOf (byLabel s ls) tab ≡ returnedOf (seen s ks ls) tab
-  unfolding returnedOf byLabel seen
+  returned-same : returnedIn (byLabel s ls) map ≡ returnedIn (sight s ks ls) map
+  unfolding returnedIn byLabel sight
   returned-same = refl
 
-led-same : (s : Spot) (ks ls downs ups : List ℕ) (d : ℕ) → ledOf (bare s) d downs ups ≡ ledOf (seen s ks ls) d downs ups
-unfolding ledOf enteredTo bare seen
-led-same s ks ls downs ups d = refl
+  entered-same : enteredIn (bare s) map ≡ enteredIn (sight s ks ls) map
+  unfolding enteredIn sight
+  entered-same = refl
 
 -- ---- `tested`
-module _ (s : Spot) (ks ls : List ℕ) (k v : ℕ) (tab : List ℕ) (m : Move) where
+module _ (s : Spot) (ks ls : List ℕ) (a v : ℕ) (map : List ℕ) (m : Move) where
   abbrev Tells : Type 0
-  Tells = m ≡ testedOf (seen s ks ls) k v tab
+  Tells = m ≡ testedIn (sight s ks ls) a v map
 
-  pub tested-stop : 2 ≤ v → m ≡ refusedOf (seenBy s 9 0) v → Tells
-  unfolding testedOf seen
+  pub tested-stop : 2 ≤ v → m ≡ refusedIn (bare s) v → Tells
+  unfolding testedIn sight
   tested-stop h e = rw (le-leb 2 v h) e
 
   module _ (h : v < 2) where
-    pub tested-if : k ≡ 5 → s .direction ≡ 0 → m ≡ chosenOf (bare s) v tab → Tells
-    unfolding testedOf seen
-    tested-if e d x = rw (lt-leb 2 v h, eq-eqb k 5 e, eq-eqb (s .direction) 0 d) (x ∙ chosen-same s ks ls tab v)
+    pub tested-5 : a ≡ 5 → m ≡ chosenIn (bare s) v map → Tells
+    unfolding testedIn
+    tested-5 e x = rw (lt-leb 2 v h, eq-eqb a 5 e) (x ∙ chosen-same s ks ls map v)
 
-    pub tested-if-up : k ≡ 5 → (s .direction ≡ 0 → ⊥) → m ≡ closedOf (byKind s ks) v tab → Tells
-    unfolding testedOf seen
-    tested-if-up e d x = rw (lt-leb 2 v h, eq-eqb k 5 e, ne-eqb (s .direction) 0 d) (x ∙ closed-same s ks ls tab v)
+    module _ (n5 : a ≡ 5 → ⊥) where
+      pub tested-7 : a ≡ 7 → m ≡ closedIn (byKind s ks) v map → Tells
+      unfolding testedIn
+      tested-7 e x = rw (lt-leb 2 v h, ne-eqb a 5 n5, eq-eqb a 7 e) (x ∙ closed-same s ks ls map v)
 
-    module _ (n5 : k ≡ 5 → ⊥) where
-      pub tested-fi : k ≡ 7 → s .direction ≡ 0 → m ≡ closedOf (byKind s ks) v tab → Tells
-      unfolding testedOf seen
-      tested-fi e d x = rw (lt-leb 2 v h, ne-eqb k 5 n5, eq-eqb k 7 e, eq-eqb (s .direction) 0 d) (x ∙ closed-same s ks ls tab v)
+      module _ (n7 : a ≡ 7 → ⊥) where
+        pub tested-8 : a ≡ 8 → m ≡ openedIn (sight s ks ls) v map → Tells
+        unfolding testedIn
+        tested-8 e x = rw (lt-leb 2 v h, ne-eqb a 5 n5, ne-eqb a 7 n7, eq-eqb a 8 e) x
 
-      pub tested-fi-up : k ≡ 7 → (s .direction ≡ 0 → ⊥) → m ≡ chosenOf (bare s) v tab → Tells
-      unfolding testedOf seen
-      tested-fi-up e d x = rw (lt-leb 2 v h, ne-eqb k 5 n5, eq-eqb k 7 e, ne-eqb (s .direction) 0 d) (x ∙ chosen-same s ks ls tab v)
+        pub tested-10 : (a ≡ 8 → ⊥) → m ≡ repeatedIn (byLabel s ls) v map → Tells
+        unfolding testedIn
+        tested-10 n8 x = rw (lt-leb 2 v h, ne-eqb a 5 n5, ne-eqb a 7 n7, ne-eqb a 8 n8) (x ∙ repeated-same s ks ls map v)
 
-      module _ (n7 : k ≡ 7 → ⊥) where
-        pub tested-from : k ≡ 8 → s .direction ≡ 0 → m ≡ openedOf (seen s ks ls) v (s .b) tab → Tells
-        unfolding testedOf seen
-        tested-from e d x = rw (lt-leb 2 v h, ne-eqb k 5 n5, ne-eqb k 7 n7, eq-eqb k 8 e, eq-eqb (s .direction) 0 d) x
+pub ruleset tests = (tested-stop, tested-5, tested-7, tested-8, tested-10)
 
-        pub tested-from-up : k ≡ 8 → (s .direction ≡ 0 → ⊥) → (y : ℕ) → m ≡ repeatedOf (byLabel s ls) v y tab → y ≡ lookIn tab (4096 + s .b) → Tells
-        unfolding testedOf seen
-        tested-from-up e d y x yy =
-            rw (lt-leb 2 v h, ne-eqb k 5 n5, ne-eqb k 7 n7, eq-eqb k 8 e, ne-eqb (s .direction) 0 d, ← yy) (x ∙ repeated-same s ks ls tab v y)
-
-        module _ (n8 : k ≡ 8 → ⊥) (y : ℕ) where
-          pub tested-until : s .direction ≡ 0 → m ≡ repeatedOf (byLabel s ls) v y tab → y ≡ lookIn tab (3072 + s .b) → Tells
-          unfolding testedOf seen
-          tested-until d x yy =
-              rw (lt-leb 2 v h, ne-eqb k 5 n5, ne-eqb k 7 n7, ne-eqb k 8 n8, eq-eqb (s .direction) 0 d, ← yy) (x ∙ repeated-same s ks ls tab v y)
-
-          pub tested-until-up : (s .direction ≡ 0 → ⊥) → m ≡ openedOf (seen s ks ls) v y tab → y ≡ lookIn tab (3072 + s .b) → Tells
-          unfolding testedOf seen
-          tested-until-up d x yy = rw (lt-leb 2 v h, ne-eqb k 5 n5, ne-eqb k 7 n7, ne-eqb k 8 n8, ne-eqb (s .direction) 0 d, ← yy) x
-
-pub ruleset tests = (tested-stop, tested-if, tested-if-up, tested-fi, tested-fi-up, tested-from, tested-from-up, tested-until, tested-until-up)
-
--- ---- the rule, by the kind of the record met
-module _ (f tab downs ups arr : List ℕ) (s : Seen) (σ : Store) (k at : ℕ) (kk : k ≡ lookIn tab (1024 + s .b)) (aa : at ≡ lookIn tab (s .b)) (m : Move) (nb : s .b < 1024) where
-  abbrev Says : Store → Type 0
-  Says τ = Rules (ruleOf f tab downs ups arr s σ) m τ
-
-  pub rule-set : (n : ℕ) (τ : Store) → k ≡ 4 → m ≡ assignedOf s n tab → Leaves (setAt f at (s .direction) arr σ) σ n τ → Says τ
-  unfolding ruleOf
-  rule-set n τ e h l = rw (lt-ltb (s .b) 1024 nb, ← kk, eq-eqb k 4 e, ← aa) (go (setAt f at (s .direction) arr σ) l)
-    where
-      go : (x : Answer Store) → Leaves x σ n τ → Rules (afterSet s tab σ x) m τ
-      go (ok σ′) l = record { made = h ∙ ap (λ n. assignedOf s n tab) (l .0); left = l .1 }
-      go (no q) l = record { made = h ∙ ap (λ n. assignedOf s n tab) (l .0); left = l .1 }
-
-  module _ (n4 : k ≡ 4 → ⊥) where
-    pub rule-skip : (next : ℕ) → k ≡ 13 → m ≡ keptOf s next → next ≡ alongOf tab (s .direction) (s .b) → Says σ
-    unfolding ruleOf
-    rule-skip next e h n = rw (lt-ltb (s .b) 1024 nb, ← kk, ne-eqb k 4 n4, eq-eqb k 13 e, ← n) (record { made = h; left = refl })
-
-    module _ (n13 : k ≡ 13 → ⊥) where
-      pub rule-call : k ≡ 11 → m ≡ ledOf s (s .direction) downs ups → Says σ
-      unfolding ruleOf
-      rule-call e h = rw (lt-ltb (s .b) 1024 nb, ← kk, ne-eqb k 4 n4, ne-eqb k 13 n13, eq-eqb k 11 e) (record { made = h; left = refl })
-
-      module _ (n11 : k ≡ 11 → ⊥) where
-        pub rule-uncall : (d : ℕ) → k ≡ 12 → m ≡ ledOf s d downs ups → d ≡ otherOf (s .direction) → Says σ
-        unfolding ruleOf
-        rule-uncall d e h dd = rw (lt-ltb (s .b) 1024 nb, ← kk, ne-eqb k 4 n4, ne-eqb k 13 n13, ne-eqb k 11 n11, eq-eqb k 12 e, ← dd) (record { made = h; left = refl })
-
-        module _ (n12 : k ≡ 12 → ⊥) where
-          pub rule-return : k ≤ 3 → m ≡ returnedOf s tab → Says σ
-          unfolding ruleOf
-          rule-return e h = rw (lt-ltb (s .b) 1024 nb, ← kk, ne-eqb k 4 n4, ne-eqb k 13 n13, ne-eqb k 11 n11, ne-eqb k 12 n12, le-leb k 3 e) (record { made = h; left = refl })
-
-          pub rule-test : (v : ℕ) → 3 < k → m ≡ testedOf s k v tab → v ≡ truthOf (worthAt arr σ (parse 16 f (at + 4))) → Says σ
-          unfolding ruleOf
-          rule-test v e h n = rw (lt-ltb (s .b) 1024 nb, ← kk, ne-eqb k 4 n4, ne-eqb k 13 n13, ne-eqb k 11 n11, ne-eqb k 12 n12, lt-leb k 3 e, ← aa, ← n) (record { made = h; left = refl })
-
-pub rule-far : (f tab downs ups arr : List ℕ) (s : Seen) (σ : Store) (m : Move) → 1024 ≤ s .b → m ≡ refusedOf s 21 → Rules (ruleOf f tab downs ups arr s σ) m σ
-unfolding ruleOf
-rule-far f tab downs ups arr s σ m h e = rw (le-ltb (s .b) 1024 h) (record { made = e; left = refl })
-
--- ---- `decide`: the same of what the code hands on
-module _ (f tab downs ups arr : List ℕ) (s : Spot) (ks ls : List ℕ) (σ : Store) (m : Move) where
+-- ---- `decide`, by what the record met does
+module _ (f map arr : List ℕ) (s : Spot) (ks ls : List ℕ) (σ : Store) (m : Move) where
   abbrev Does : Store → Type 0
-  Does τ = Rules (ruleOf f tab downs ups arr (seen s ks ls) σ) m τ
+  Does τ = Rules (ruleIn f map arr (sight s ks ls) σ) m τ
 
-  pub does-far : 1024 ≤ s .b → m ≡ refusedOf (seenBy s 9 0) 21 → Does σ
-  unfolding seen
-  does-far h e = rule-far f tab downs ups arr (seen s ks ls) σ m h e
+  pub does-far : 2048 ≤ s .way → m ≡ refusedIn (bare s) 21 → Does σ
+  unfolding ruleIn sight
+  does-far h e = rw (le-ltb (s .way) 2048 h) (record { made = e; left = refl })
 
-  module _ (k at : ℕ) (kk : k ≡ lookIn tab (1024 + s .b)) (aa : at ≡ lookIn tab (s .b)) (nb : s .b < 1024) where
-    pub does-set : (n : ℕ) (τ : Store) → k ≡ 4 → m ≡ assignedOf (seenBy s 9 0) n tab → Leaves (setAt f at (s .direction) arr σ) σ n τ → Does τ
-    unfolding seen
-    does-set n τ e h l = rule-set f tab downs ups arr (seen s ks ls) σ k at kk aa m nb n τ e h l
+  after : (n : ℕ) (τ : Store) (x : Answer Store) → m ≡ assignedIn (bare s) n map → Leaves x σ n τ → Rules (afterSet (sight s ks ls) map σ x) m τ
+  unfolding sight
+  after n τ (ok σ′) h l = record { made = h ∙ ap (λ n. assignedIn (bare s) n map) (l .0); left = l .1 }
+  after n τ (no q) h l = record { made = h ∙ ap (λ n. assignedIn (bare s) n map) (l .0); left = l .1 }
 
-    module _ (n4 : k ≡ 4 → ⊥) where
-      pub does-skip : (next : ℕ) → k ≡ 13 → m ≡ keptOf (seenBy s 9 0) next → next ≡ alongOf tab (s .direction) (s .b) → Does σ
-      unfolding seen
-      does-skip next e h n = rule-skip f tab downs ups arr (seen s ks ls) σ k at kk aa m nb n4 next e h n
+  module _ (a : ℕ) (aa : a ≡ actIn map (s .way)) (near : s .way < 2048) where
+    -- its place, operator and target, each by the entry that it was read from
+    module _ (n at o t : ℕ) (τ : Store) (i j k : ℕ) where
+      pub does-cell : a ≡ 4 → m ≡ assignedIn (bare s) n map → Leaves (setCell f at t o arr σ) σ n τ → at ≡ i → i ≡ exprIn map (s .way) → o ≡ j → j ≡ firstIn map (s .way)
+          → t ≡ k → k ≡ secondIn map (s .way) → Does τ
+      unfolding ruleIn sight
+      does-cell e h l ai ii oj jj tk kk =
+          rw (lt-ltb (s .way) 2048 near, ← aa, eq-eqb a 4 e, ← ii, ← ai, ← jj, ← oj, ← kk, ← tk) (after n τ (setCell f at t o arr σ) h l)
 
-      module _ (n13 : k ≡ 13 → ⊥) where
-        pub does-call : k ≡ 11 → m ≡ ledOf (bare s) (s .direction) downs ups → Does σ
-        unfolding seen
-        does-call e h = rule-call f tab downs ups arr (seen s ks ls) σ k at kk aa m nb n4 n13 e (h ∙ led-same s ks ls downs ups (s .direction))
+      pub does-entry : (a ≡ 4 → ⊥) → a ≡ 6 → m ≡ assignedIn (bare s) n map → Leaves (setEntry f at t o arr σ) σ n τ → at ≡ i → i ≡ exprIn map (s .way) → o ≡ j
+          → j ≡ firstIn map (s .way) → t ≡ k → k ≡ secondIn map (s .way) → Does τ
+      unfolding ruleIn sight
+      does-entry n4 e h l ai ii oj jj tk kk =
+          rw (lt-ltb (s .way) 2048 near, ← aa, ne-eqb a 4 n4, eq-eqb a 6 e, ← ii, ← ai, ← jj, ← oj, ← kk, ← tk) (after n τ (setEntry f at t o arr σ) h l)
 
-        module _ (n11 : k ≡ 11 → ⊥) where
-          pub does-uncall : (d : ℕ) → k ≡ 12 → m ≡ ledOf (bare s) d downs ups → d ≡ otherOf (s .direction) → Does σ
-          unfolding seen
-          does-uncall d e h dd = rule-uncall f tab downs ups arr (seen s ks ls) σ k at kk aa m nb n4 n13 n11 d e (h ∙ led-same s ks ls downs ups d) dd
+    module _ (n4 : a ≡ 4 → ⊥) (n6 : a ≡ 6 → ⊥) where
+      pub does-skip : (next : ℕ) → a ≡ 13 → m ≡ keptIn (bare s) next → next ≡ yesIn map (s .way) → Does σ
+      unfolding ruleIn sight
+      does-skip next e h n = rw (lt-ltb (s .way) 2048 near, ← aa, ne-eqb a 4 n4, ne-eqb a 6 n6, eq-eqb a 13 e, ← n) (record { made = h; left = refl })
 
-          module _ (n12 : k ≡ 12 → ⊥) where
-            pub does-return : k ≤ 3 → m ≡ returnedOf (byLabel s ls) tab → Does σ
-            unfolding seen
-            does-return e h = rule-return f tab downs ups arr (seen s ks ls) σ k at kk aa m nb n4 n13 n11 n12 e (h ∙ returned-same s ks ls tab)
+      module _ (n13 : a ≡ 13 → ⊥) where
+        pub does-call : a ≡ 11 → m ≡ enteredIn (bare s) map → Does σ
+        unfolding ruleIn sight
+        does-call e h =
+            rw (lt-ltb (s .way) 2048 near, ← aa, ne-eqb a 4 n4, ne-eqb a 6 n6, ne-eqb a 13 n13, eq-eqb a 11 e) (record { made = h ∙ entered-same s ks ls map; left = refl })
 
-            pub does-test : (v : ℕ) → 3 < k → m ≡ testedOf (seen s ks ls) k v tab → v ≡ truthOf (worthAt arr σ (parse 16 f (at + 4))) → Does σ
-            unfolding seen
-            does-test v e h n = rule-test f tab downs ups arr (seen s ks ls) σ k at kk aa m nb n4 n13 n11 n12 v e h n
+        module _ (n11 : a ≡ 11 → ⊥) where
+          pub does-return : a ≡ 3 → m ≡ returnedIn (byLabel s ls) map → Does σ
+          unfolding ruleIn sight
+          does-return e h =
+              rw (lt-ltb (s .way) 2048 near, ← aa, ne-eqb a 4 n4, ne-eqb a 6 n6, ne-eqb a 13 n13, ne-eqb a 11 n11, eq-eqb a 3 e)
+              (record { made = h ∙ returned-same s ks ls map; left = refl })
 
-pub ruleset rules = (does-far, does-set, does-skip, does-call, does-uncall, does-return, does-test)
+          pub does-test : (v at i : ℕ) → (a ≡ 3 → ⊥) → m ≡ testedIn (sight s ks ls) a v map → v ≡ truthOf (worthAt arr σ (within 32768 f at)) → at ≡ i
+              → i ≡ exprIn map (s .way) → Does σ
+          unfolding ruleIn sight
+          does-test v at i n3 h vv ai ii =
+              rw (lt-ltb (s .way) 2048 near, ← aa, ne-eqb a 4 n4, ne-eqb a 6 n6, ne-eqb a 13 n13, ne-eqb a 11 n11, ne-eqb a 3 n3, ← ii, ← ai, ← vv)
+              (record { made = h; left = refl })
+
+pub ruleset rules = (does-far, does-cell, does-entry, does-skip, does-call, does-return, does-test)

@@ -1,5 +1,7 @@
 -- The laws of `decide`, in the order in which they stand on each other.
 pub mod SetCases
 pub mod DecideCases
-pub mod GateCases
+pub mod Rules
+pub mod MapCases
+pub mod Mapped
 pub mod Determined

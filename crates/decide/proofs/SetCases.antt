@@ -1,12 +1,11 @@
 -- The answers of the functions of src/set.rt, case by case, over plain numbers and lists. Assumes nothing.
 use mathlib.Core.Path.{_≡_, refl, sym, ap, _∙_}
 use mathlib.Core.List.{List}
-use mathlib.Core.Bool.{Bool, true, false, false≢true, true≢false, cond}
+use mathlib.Core.Bool.{true, false, false≢true, true≢false}
 use Prim.Native.Nat.{ℕ, zero, suc, _+_, _≤_, _<_}
 use native.Mathlib.Nat.{add-comm}
 use native.Mathlib.Omega.{arith}
 use borrow.Author.Tests.{eq-eqb, ne-eqb, lt-ltb, le-ltb, ltb-true}
-use lib.Dec.{eqb}
 use lib.IntN.{ℤ, pos, negsuc, _+ℤ_, _-ℤ_}
 use lib.ListN.{length, getD, take, drop, length-take, List·getD-eq-default, set as put}
 use lib.Seq.{getD-take, getD-drop, set-out}
@@ -16,11 +15,11 @@ use mir.Val.{SFits, ofZ, toZ}
 use mir.Facts.{toZ-ofZ}
 use Rattle.values.specs.Values.{wrap, xorZ}
 use Rattle.expr.specs.Tree.{Fault, byZero, badIndex as outside, Worth, value, stop}
-use Rattle.expr.specs.Bytes.{Got, parse}
+use Rattle.expr.specs.Bytes.{Got, within}
 use Rattle.expr.specs.Answers.{packedWorth, InCell, arraysOf, worthAt, WorthSays, movedTo}
-use Rattle.records.specs.Faults.{word}
 use Rattle.moves.specs.Stores.{Answer, ok, no, Reason, number, bind, Store, answered, reasonOf, applied}
-use Rattle.decide.specs.Sets.{operatorAt, worked, faultOf, missOf, entryBy, EntrySays, targetOf, targetEnd, TargetSays, Leaves, setTo, setEntry, setAt}
+use Rattle.decide.specs.Sets.{operatorAt, worked, faultOf, entryBy, EntrySays, Leaves, setTo, setEntry}
+use Rattle.decide.specs.Ways.{setCell}
 
 -- a signed number that was put in a variable, a field or an argument is read back from its bits
 abbrev again : ℤ → ℤ
@@ -36,27 +35,7 @@ fault-yes n e = rw (eq-eqb n 4294967328 e)
 pub fault-no : (n : ℕ) → (n ≡ 4294967328 → ⊥) → 33 ≡ faultOf n
 fault-no n e = rw (ne-eqb n 4294967328 e)
 
--- the same as a number that no cell has
-pub missed-yes : (n : ℕ) → n ≡ 4294967328 → 131104 ≡ 131072 + faultOf n
-missed-yes n e = rw (eq-eqb n 4294967328 e)
-
-pub missed-no : (n : ℕ) → (n ≡ 4294967328 → ⊥) → 131105 ≡ 131072 + faultOf n
-missed-no n e = rw (ne-eqb n 4294967328 e)
-
-miss-fault : (n : ℕ) → missOf (131072 + faultOf n) ≡ faultOf n
-miss-fault n = go (eqb n 4294967328)
-  where
-    go : (t : Bool) → missOf (131072 + cond t 32 33) ≡ cond t 32 33
-    go true = refl
-    go false = refl
-
-pub miss-yes : (n : ℕ) → n ≡ 131104 → 32 ≡ missOf n
-miss-yes n e = rw (eq-eqb n 131104 e)
-
-pub miss-no : (n : ℕ) → (n ≡ 131104 → ⊥) → 33 ≡ missOf n
-miss-no n e = rw (ne-eqb n 131104 e)
-
-pub ruleset faults = (fault-yes, fault-no, missed-yes, missed-no, miss-yes, miss-no)
+pub ruleset faults = (fault-yes, fault-no)
 
 module _ (o d : ℕ) where
   pub op-down : d ≡ 0 → o ≡ operatorAt o d
@@ -93,7 +72,7 @@ apply-exclusive o x v r fx fv fr h k p = toZ-ofZ fr ∙ p ∙ rw (toZ-ofZ fx, to
 
 pub ruleset applies = (apply-sum, apply-difference, apply-exclusive)
 
--- ---- `entry`: the cell of an array at an index
+-- ---- `cell_of`: the cell of an array at an index
 module _ (l : List ℕ) (a : ℕ) where
   far : (m : List ℕ) → 16 ≤ a → getD (take 16 m) a 0 ≡ 0
   far m h = List·getD-eq-default (take 16 m) 0 (simp length-take (omega arith))
@@ -104,9 +83,9 @@ module _ (l : List ℕ) (a : ℕ) where
   near-length : a < 16 → getD (arraysOf l .lengths) a 0 ≡ getD l (a + 16) 0
   near-length h = getD-take 16 (drop 16 l) a 0 h ∙ getD-drop 16 l a 0 ∙ ap (λ (i : ℕ). getD l i 0) (add-comm 16 a)
 
-  missed : (z : ℤ) (i : ℕ) → i ≡ ofZ w32 z → getD (arraysOf l .lengths) a 0 ≤ i → EntrySays (entryBy (arraysOf l) a z) 131105
-  missed (pos n) i e h = rw (le-ltb n (getD (arraysOf l .lengths) a 0) (omega arith)) (refl, omega arith)
-  missed (negsuc n) i e h = (refl, omega arith)
+  missed : (z : ℤ) (i : ℕ) → i ≡ ofZ w32 z → getD (arraysOf l .lengths) a 0 ≤ i → EntrySays (entryBy (arraysOf l) a z) 131072
+  missed (pos n) i e h = rw (le-ltb n (getD (arraysOf l .lengths) a 0) (omega arith)) (refl, refl)
+  missed (negsuc n) i e h = (refl, refl)
 
   hit : (z : ℤ) (i : ℕ) → SFits w32 z → i ≡ ofZ w32 z → i < getD (arraysOf l .lengths) a 0 → getD (arraysOf l .lengths) a 0 < 65536
       → (start : ℕ) → start ≡ getD (arraysOf l .starts) a 0 → start < 65536 → EntrySays (entryBy (arraysOf l) a z) (start + i)
@@ -114,11 +93,11 @@ module _ (l : List ℕ) (a : ℕ) where
   hit (negsuc n) i f e h k start s b = absurd (omega arith)
 
 module _ (l : List ℕ) (a : ℕ) (z : ℤ) where
-  pub entry-far : 16 ≤ a → EntrySays (entryBy (arraysOf l) a z) 131105
+  pub entry-far : 16 ≤ a → EntrySays (entryBy (arraysOf l) a z) 131072
   entry-far h = missed l a z (ofZ w32 z) refl (omega (arith, far l a (drop 16 l) h))
 
   module _ (f : SFits w32 z) (h : a < 16) (i n : ℕ) (ii : i ≡ ofZ w32 (again z)) (nn : n ≡ getD l (a + 16) 0) where
-    pub entry-out : n ≤ i → EntrySays (entryBy (arraysOf l) a z) 131105
+    pub entry-out : n ≤ i → EntrySays (entryBy (arraysOf l) a z) 131072
     entry-out k = missed l a z i (ii ∙ ap (ofZ w32) (toZ-ofZ f)) (omega (arith, near-length l a h))
 
     pub entry-in : (start : ℕ) → i < n → n < 65536 → start < 65536 → start ≡ getD l a 0 → EntrySays (entryBy (arraysOf l) a z) (start + i)
@@ -156,7 +135,7 @@ put-out σ cell o v h = sym (set-out σ cell _ h)
 
 pub ruleset puts = (put-in, put-out)
 
--- ---- `target`, `assign`
+-- ---- `set_cell`, `set_entry`
 module _ (r : ℤ) (f : SFits w64 r) (arr : List ℕ) (cs : List ℤ) (at : ℕ) (g : Got) (after : ℕ) (says : WorthSays arr cs at g r after) where
   told-stop : ltZ (pos 2147483647) (again64 r) ≡ true → (n : ℕ) → n ≡ faultOf (ofZ w64 (again64 r)) → (q : Reason) × (answered (worthAt arr cs g) ≡ no q) × (n ≡ number q)
   told-stop t n e =
@@ -169,79 +148,40 @@ module _ (r : ℤ) (f : SFits w64 r) (arr : List ℕ) (cs : List ℤ) (at : ℕ)
       let back : again (again64 r) ≡ r = ap again (toZ-ofZ f) ∙ toZ-ofZ (s .1) in
       (ap answered (s .0) ∙ ap ok (sym back), says .place ∙ ap (λ (w : Worth). movedTo w at (g .next)) (s .0))
 
--- the cell to write, or why there is none
-module _ (f : List ℕ) (at form n : ℕ) (arr : List ℕ) (σ : Store) where
-  abbrev Aims : ℕ → ℕ → Type 0
-  Aims r after = TargetSays (targetOf f at form n arr σ) (targetEnd f at form) r after
+module _ (f : List ℕ) (at c o : ℕ) (arr : List ℕ) (σ : Store) (v : ℤ) (fits : SFits w64 v) (after : ℕ) (says : WorthSays arr σ at (within 32768 f at) v after) where
+  pub cell-stop : (r : ℕ) → ltZ (pos 2147483647) (again64 v) ≡ true → r ≡ faultOf (ofZ w64 (again64 v)) → Leaves (setCell f at c o arr σ) σ r σ
+  unfolding setCell bind
+  cell-stop r t e = let s = told-stop v fits _ _ _ _ after says t r e in rw (s .1) (s .2, refl)
 
-  pub target-scalar : form ≡ 0 → n < 65536 → Aims n at
-  unfolding targetOf targetEnd
-  target-scalar e h = rw (eq-eqb form 0 e) ((refl, omega arith), refl)
+  pub cell-done : (σ′ : Store) → ltZ (pos 2147483647) (again64 v) ≡ false → σ′ ≡ worked σ c o (again (again64 v)) → Leaves (setCell f at c o arr σ) σ 0 σ′
+  unfolding setCell bind
+  cell-done σ′ t e = rw (told-value v fits _ _ _ _ after says t .0) (refl, e)
 
-  module _ (e : form ≡ 0 → ⊥) (i : ℤ) (fits : SFits w64 i) (after : ℕ) (says : WorthSays arr σ at (parse 16 f at) i after) where
-    pub target-stop : (r : ℕ) → ltZ (pos 2147483647) (again64 i) ≡ true → r ≡ 131072 + faultOf (ofZ w64 (again64 i)) → Aims r after
-    unfolding targetOf targetEnd bind
-    target-stop r t h =
-        let s = told-stop i fits _ _ _ _ after says t (faultOf (ofZ w64 (again64 i))) refl in
-        rw (ne-eqb form 0 e, s .1) (ap missOf h ∙ miss-fault (ofZ w64 (again64 i)) ∙ s .2, omega arith)
+pub ruleset cells = (cell-stop, cell-done)
 
-    pub target-entry : (r : ℕ) → ltZ (pos 2147483647) (again64 i) ≡ false → EntrySays (entryBy (arraysOf arr) n (again (again64 i))) r → Aims r after
-    unfolding targetOf targetEnd bind
-    target-entry r t h =
-        let v = told-value i fits _ _ _ _ after says t in
-        rw (ne-eqb form 0 e, v .0) (go (entryBy (arraysOf arr) n (again (again64 i))) h (v .1))
+-- the index first, then the cell that it names
+module _ (f : List ℕ) (at a o : ℕ) (arr : List ℕ) (σ : Store) (i : ℤ) (fits : SFits w64 i) (after : ℕ) (says : WorthSays arr σ at (within 32768 f at) i after) where
+  pub entry-stop : (r : ℕ) → ltZ (pos 2147483647) (again64 i) ≡ true → r ≡ faultOf (ofZ w64 (again64 i)) → Leaves (setEntry f at a o arr σ) σ r σ
+  unfolding setEntry bind
+  entry-stop r t e = let s = told-stop i fits _ _ _ _ after says t r e in rw (s .1) (s .2, refl)
+
+  module _ (t : ltZ (pos 2147483647) (again64 i) ≡ false) (c : ℕ) where
+    pub entry-none : c ≡ 131072 → EntrySays (entryBy (arraysOf arr) a (again (again64 i))) c → Leaves (setEntry f at a o arr σ) σ 33 σ
+    unfolding setEntry bind
+    entry-none e aims = rw (told-value i fits _ _ _ _ after says t .0) (go (entryBy (arraysOf arr) a (again (again64 i))) aims)
       where
-        go : (x : Answer ℕ) → EntrySays x r → after ≡ parse 16 f at .next → TargetSays x (parse 16 f at .next) r after
-        go (ok c) h p = (h, p)
-        go (no q) h p = h
+        go : (x : Answer ℕ) → EntrySays x c → Leaves (bind x (λ c. setTo c o σ (worthAt arr σ (within 32768 f (within 32768 f at .next))))) σ 33 σ
+        go (ok k) h = absurd (omega arith)
+        go (no q) h = rw (h .1) (refl, refl)
 
-pub ruleset targets = (target-scalar, target-stop, target-entry)
-
--- a SET: the cell first, then the expression behind it
-module _ (f : List ℕ) (at d : ℕ) (arr : List ℕ) (σ : Store) where
-  by-target : (form n o : ℕ) → form ≡ getD f (at + 5) 0 → n ≡ word f (at + 6) → o ≡ operatorAt (getD f (at + 4) 0) d
-      → setAt f at d arr σ ≡ bind (targetOf f (at + 8) form n arr σ) (λ c. setTo c o σ (worthAt arr σ (parse 16 f (targetEnd f (at + 8) form))))
-  unfolding setAt setEntry targetOf targetEnd bind
-  by-target form n o ff nn oo = rw (← ff, ← nn, ← oo) (go (eqb form 0))
-    where
-      go : (t : Bool) → cond t (setTo n o σ (worthAt arr σ (parse 16 f (at + 8)))) (setEntry f (at + 8) n o arr σ)
-          ≡ bind (cond t (ok n) (bind (answered (worthAt arr σ (parse 16 f (at + 8)))) (λ v. entryBy (arraysOf arr) n v)))
-          (λ c. setTo c o σ (worthAt arr σ (parse 16 f (cond t (at + 8) (parse 16 f (at + 8) .next)))))
-      go true = refl
-      go false = refl
-
-  -- what is known where the cell has been asked for; w is the record's place as a number
-  module _ (w o b form n c p : ℕ) (ww : w ≡ at) (oo : o ≡ operatorAt b d) (bb : b ≡ getD f (w + 4) 0) (ff : form ≡ getD f (w + 5) 0) (nn : n ≡ word f (w + 6))
-      (aims : TargetSays (targetOf f (w + 8) form n arr σ) (targetEnd f (w + 8) form) c p) where
-    set-is : setAt f at d arr σ ≡ bind (targetOf f (at + 8) form n arr σ) (λ c. setTo c o σ (worthAt arr σ (parse 16 f (targetEnd f (at + 8) form))))
-    set-is = by-target form n o (rw ww at ff) (rw ww at nn) (oo ∙ ap (λ (b : ℕ). operatorAt b d) (rw ww at bb))
-
-    aimed : TargetSays (targetOf f (at + 8) form n arr σ) (targetEnd f (at + 8) form) c p
-    aimed = rw ww at aims
-
-    pub set-miss : (r : ℕ) → 131072 ≤ c → r ≡ missOf c → Leaves (setAt f at d arr σ) σ r σ
-    unfolding bind
-    set-miss r h e = rw set-is (go (targetOf f (at + 8) form n arr σ) aimed)
+    pub entry-done : (c ≡ 131072 → ⊥) → EntrySays (entryBy (arraysOf arr) a (again (again64 i))) c → (r : ℕ) (σ′ : Store) → Leaves (setCell f after c o arr σ) σ r σ′
+        → Leaves (setEntry f at a o arr σ) σ r σ′
+    unfolding setEntry setCell bind
+    entry-done e aims r σ′ l = let v = told-value i fits _ _ _ _ after says t in rw (v .0) (go (entryBy (arraysOf arr) a (again (again64 i))) aims (v .1))
       where
-        go : (x : Answer ℕ) → TargetSays x (targetEnd f (at + 8) form) c p → Leaves (bind x (λ c. setTo c o σ (worthAt arr σ (parse 16 f (targetEnd f (at + 8) form))))) σ r σ
-        go (ok k) t = absurd (omega arith)
-        go (no q) t = (e ∙ t .0, refl)
+        go : (x : Answer ℕ) → EntrySays x c → after ≡ within 32768 f at .next
+            → Leaves (bind x (λ c. setTo c o σ (worthAt arr σ (within 32768 f (within 32768 f at .next))))) σ r σ′
+        go (ok k) h n = rw (← h .0, ← n) l
+        go (no q) h n = absurd (e (h .0))
 
-    module _ (h : c < 131072) (v : ℤ) (fits : SFits w64 v) (after : ℕ) (says : WorthSays arr σ p (parse 16 f p) v after) where
-      through : (r : ℕ) (σ′ : Store) → Leaves (setTo c o σ (worthAt arr σ (parse 16 f p))) σ r σ′ → Leaves (setAt f at d arr σ) σ r σ′
-      unfolding bind
-      through r σ′ l = rw set-is (go (targetOf f (at + 8) form n arr σ) aimed)
-        where
-          go : (x : Answer ℕ) → TargetSays x (targetEnd f (at + 8) form) c p → Leaves (bind x (λ c. setTo c o σ (worthAt arr σ (parse 16 f (targetEnd f (at + 8) form))))) σ r σ′
-          go (ok k) t = rw (← t .0 .0, ← t .1) l
-          go (no q) t = absurd (omega arith)
-
-      pub set-stop : (r : ℕ) → ltZ (pos 2147483647) (again64 v) ≡ true → r ≡ faultOf (ofZ w64 (again64 v)) → Leaves (setAt f at d arr σ) σ r σ
-      unfolding bind
-      set-stop r t e = let s = told-stop v fits _ _ _ _ after says t r e in through r σ (rw (s .1) (s .2, refl))
-
-      pub set-done : (σ′ : Store) → ltZ (pos 2147483647) (again64 v) ≡ false → σ′ ≡ worked σ c o (again (again64 v)) → Leaves (setAt f at d arr σ) σ 0 σ′
-      unfolding bind
-      set-done σ′ t e = through 0 σ′ (rw (told-value v fits _ _ _ _ after says t .0) (refl, e))
-
-pub ruleset sets = (set-miss, set-stop, set-done)
+pub ruleset entered = (entry-stop, entry-none, entry-done)

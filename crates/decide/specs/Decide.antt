@@ -3,7 +3,7 @@
 use Prim.Native.Nat.{ℕ, _+_, _-_}
 use mathlib.Core.List.{List}
 use mathlib.Core.Path.{_≡_}
-use mathlib.Core.Bool.{Bool, false, cond}
+use mathlib.Core.Bool.{Bool, false, cond, Bool·beq as same}
 use lib.ListN.{getD}
 use lib.Dec.{ltb, leb, eqb}
 use Rattle.values.specs.Values.{isTrue}
@@ -129,8 +129,37 @@ procAt f tab x = word f (lookIn tab x + 4)
 abbrev pub resumedOf : List ℕ → ℕ → ℕ → ℕ
 resumedOf tab l d = cond (eqb (lookIn tab (1024 + l)) 12) (otherOf d) d
 
+-- what a record does: it returns (3), assigns (4), calls (11), is skipped (13), chooses (5), closes (7), opens (8) or tests (10)
+abbrev pub testOf : ℕ → ℕ → ℕ
+testOf k d =
+    cond (eqb k 5) (cond (eqb d 0) 5 7)
+    (cond (eqb k 7) (cond (eqb d 0) 7 5)
+    (cond (eqb k 8) (cond (eqb d 0) 8 10)
+    (cond (eqb d 0) 10 8)))
+
+abbrev pub actOf : ℕ → ℕ → ℕ
+actOf k d =
+    cond (eqb k 4) 4
+    (cond (eqb k 13) 13
+    (cond (eqb k 11) 11
+    (cond (eqb k 12) 11
+    (cond (leb k 3) 3
+    (testOf k d)))))
+
+-- the record that is left behind record b, where its test does not hold, or does
+abbrev pub leftAt : List ℕ → ℕ → ℕ → ℕ → Bool → ℕ
+leftAt tab a b d fails =
+    cond (eqb a 5) (cond (same fails (eqb d 0)) (lookIn tab (3072 + b)) b)
+    (cond (eqb a 8) (cond (eqb d 0) b (lookIn tab (3072 + b)))
+    (cond (eqb a 10) (cond fails (cond (eqb d 0) (lookIn tab (3072 + b)) (lookIn tab (4096 + b))) b)
+    b))
+
+-- behind a record that one comes back to: a call itself
+abbrev pub behindOf : List ℕ → ℕ → ℕ → ℕ
+behindOf tab l d = leftAt tab (actOf (lookIn tab (1024 + l)) d) l d false
+
 abbrev pub backOf : Seen → ℕ → ℕ → List ℕ → Moved
-backOf s d l tab = moving 0 d l (alongOf tab d l) (s .calls - 1) (fewerOf (s .count)) (fewerOf (s .count)) 0 0
+backOf s d l tab = moving 0 d l (alongOf tab d (behindOf tab l (s .direction))) (s .calls - 1) (fewerOf (s .count)) (fewerOf (s .count)) 0 0
 
 unfoldable pub returnedOf : Seen → List ℕ → Moved
 returnedOf s tab = cond (eqb (s .calls) 0) (refusedOf s 30) (backOf s (resumedOf tab (s .label) (s .direction)) (s .label) tab)

@@ -3,52 +3,28 @@
 use Prim.Native.Nat.{ℕ, _+_, _*_, _%_, _<_}
 use mathlib.Core.List.{List}
 use mathlib.Core.Path.{_≡_}
-use mathlib.Core.Bool.{Bool, true, false, cond, Bool·beq as same}
+use mathlib.Core.Bool.{Bool, true, false, cond}
 use lib.ListN.{length, getD, replicate}
-use lib.Dec.{ltb, leb, eqb}
+use lib.Dec.{ltb, eqb}
 use Rattle.records.specs.Faults.{word}
 use Rattle.decide.specs.Sets.{operatorAt}
-use Rattle.decide.specs.Decide.{lookIn, alongOf, gateOf, procAt, resumedOf}
+use Rattle.decide.specs.Decide.{lookIn, alongOf, gateOf, procAt, resumedOf, actOf, leftAt}
 use Rattle.decide.specs.Ways.{wayTo}
 
 unfoldable pub noEntries : List ℕ
 noEntries = replicate 14336 0
 
--- ---- what a record does: it returns (3), assigns to a cell (4) or an entry (6), calls (11), is skipped (13),
--- chooses (5), closes (7), opens (8) or tests (10)
-abbrev pub testOf : ℕ → ℕ → ℕ
-testOf k d =
-    cond (eqb k 5) (cond (eqb d 0) 5 7)
-    (cond (eqb k 7) (cond (eqb d 0) 7 5)
-    (cond (eqb k 8) (cond (eqb d 0) 8 10)
-    (cond (eqb d 0) 10 8)))
-
-abbrev pub actOf : ℕ → ℕ → ℕ
-actOf k d =
-    cond (eqb k 4) 4
-    (cond (eqb k 13) 13
-    (cond (eqb k 11) 11
-    (cond (eqb k 12) 11
-    (cond (leb k 3) 3
-    (testOf k d)))))
-
+-- ---- what a record does; a SET of an entry has an act of its own (6)
 abbrev pub formAt : List ℕ → List ℕ → ℕ → ℕ
 formAt f tab b = getD f (lookIn tab b + 5) 0
 
 unfoldable pub actAt : List ℕ → List ℕ → ℕ → ℕ → ℕ
 actAt f tab b d = cond (eqb (lookIn tab (1024 + b)) 4) (cond (eqb (formAt f tab b) 0) 4 6) (actOf (lookIn tab (1024 + b)) d)
 
--- ---- the way on from record b: the record that is left there, where its test does not hold, or does
-abbrev pub leftAt : List ℕ → ℕ → ℕ → ℕ → Bool → ℕ
-leftAt tab a b d no =
-    cond (eqb a 5) (cond (same no (eqb d 0)) (lookIn tab (3072 + b)) b)
-    (cond (eqb a 8) (cond (eqb d 0) b (lookIn tab (3072 + b)))
-    (cond (eqb a 10) (cond no (cond (eqb d 0) (lookIn tab (3072 + b)) (lookIn tab (4096 + b))) b)
-    b))
-
+-- ---- the way on from record b, where its test does not hold, or does
 unfoldable pub onwardAt : List ℕ → ℕ → ℕ → Bool → ℕ
-onwardAt tab b d no =
-    wayTo (alongOf tab (resumedOf tab b d) (leftAt tab (actOf (lookIn tab (1024 + b)) d) b d no)) (resumedOf tab b d)
+onwardAt tab b d fails =
+    wayTo (alongOf tab (resumedOf tab b d) (leftAt tab (actOf (lookIn tab (1024 + b)) d) b d fails)) (resumedOf tab b d)
 
 -- ---- a call: the record by which the procedure is entered, and the way from there; a SET: its operator, and its cell or array
 unfoldable pub gateAt : List ℕ → List ℕ → ℕ → ℕ → ℕ

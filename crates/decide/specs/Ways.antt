@@ -11,7 +11,7 @@ use Rattle.expr.specs.Bytes.{within}
 use Rattle.place.specs.Methods.{topAt}
 use Rattle.moves.specs.Stores.{Answer, ok, no, number, Store}
 use Rattle.decide.specs.Sets.{setTo, setEntry}
-use Rattle.decide.specs.Decide.{moreOf, fewerOf, truthOf}
+use Rattle.decide.specs.Decide.{Seen, Moved, Ruled as Tabled, moreOf, fewerOf, truthOf}
 use Rattle.decide.specs.declared.Spot.{Spot}
 use Rattle.decide.specs.declared.Move.{Move}
 
@@ -165,3 +165,13 @@ ruleIn f m arr s σ =
     (cond (eqb (actIn m (s .way)) 3) (ruled (returnedIn s m) σ)
     (ruled (testedIn s (actIn m (s .way)) (truthOf (worthAt arr σ (within 32768 f (exprIn m (s .way))))) m) σ))))))
     (ruled (refusedIn s 21) σ)
+
+-- ---- what is decided by the table, as it is said by the map
+abbrev pub sightOf : Seen → Sight
+sightOf S = record { way = wayTo (S .b) (S .direction); calls = S .calls; count = S .count; kind = S .kind; label = S .label }
+
+abbrev pub packedMove : Moved → Move
+packedMove m = moving (m .reason) (wayTo (m .b) (m .direction)) (m .a) (m .calls) (m .count) (m .slot) (m .kind) (m .label)
+
+abbrev pub packed : Tabled → Ruled
+packed x = ruled (packedMove (x .move)) (x .store)

@@ -14,8 +14,8 @@ use codes::byte;
 use codes::short;
 ghost use mathlib.Core.Path.{_≡_};
 ghost use Prim.Native.Nat.{min};
-ghost use Rattle.decide.specs.Decide.{resumedOf};
-ghost use Rattle.decide.specs.Map.{actOf, testOf, leftAt, onwardAt, gateAt, intoAt, actAt, firstAt, secondAt, exprAt, entryAt, Maps, noEntries};
+ghost use Rattle.decide.specs.Decide.{resumedOf, testOf, actOf, leftAt};
+ghost use Rattle.decide.specs.Map.{onwardAt, gateAt, intoAt, actAt, firstAt, secondAt, exprAt, entryAt, Maps, noEntries};
 
 // No entry.
 fn none() -> [u16; 14336]
@@ -73,11 +73,11 @@ fn resumed(table: &[u16; 9344], b: u16, direction: u8) -> u8
 }
 
 // The record that is left behind record b, where its test does not hold, or does.
-fn left_at(table: &[u16; 9344], act: u16, b: u16, direction: u8, no: bool) -> u16
-    ensures { λ r. ⌜ r ≡ leftAt (now (table .entry)) act b direction no ⌝ }
+fn left_at(table: &[u16; 9344], act: u16, b: u16, direction: u8, fails: bool) -> u16
+    ensures { λ r. ⌜ r ≡ leftAt (now (table .entry)) act b direction fails ⌝ }
 {
     if act == 5 {
-        return if no == (direction == 0) {
+        return if fails == (direction == 0) {
             part(table, 3072, b)
         } else {
             b
@@ -91,7 +91,7 @@ fn left_at(table: &[u16; 9344], act: u16, b: u16, direction: u8, no: bool) -> u1
         };
     }
     if act == 10 {
-        if no {
+        if fails {
             return if direction == 0 {
                 part(table, 3072, b)
             } else {
@@ -103,12 +103,12 @@ fn left_at(table: &[u16; 9344], act: u16, b: u16, direction: u8, no: bool) -> u1
 }
 
 // The way on from record b.
-fn onward_at(table: &[u16; 9344], b: u16, direction: u8, no: bool) -> u16
-    ensures { λ r. ⌜ r ≡ onwardAt (now (table .entry)) b direction no ⌝ }
+fn onward_at(table: &[u16; 9344], b: u16, direction: u8, fails: bool) -> u16
+    ensures { λ r. ⌜ r ≡ onwardAt (now (table .entry)) b direction fails ⌝ }
 {
     let act = act_of(part(table, 1024, b), direction);
     let d = resumed(table, b, direction);
-    way_to(along(table, d, left_at(table, act, b, direction, no)), d)
+    way_to(along(table, d, left_at(table, act, b, direction, fails)), d)
 }
 
 // The record by which the procedure that record b names is entered; and the way from there.

@@ -9,8 +9,6 @@ truth-spec =
     tie.close
     (tie.spec
     (λ c κs. search needs)
-    (λ c. search needs)
-    (λ c κs. search needs)
     (λ c κs. search needs)
     (λ c. search truths)
     (λ c. search truths)

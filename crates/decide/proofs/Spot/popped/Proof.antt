@@ -9,4 +9,5 @@ popped-spec =
     tie.close
     (tie.spec
     (λ c κs. search needs)
+    (λ c κs. search needs)
     (λ c. search frames))
