@@ -26,7 +26,7 @@ use Rattle.moves.proofs.View as seen
 use Rattle.expr.proofs.Layer.{and-true}
 use Rattle.table.proofs.Facts.{facts}
 use Rattle.table.proofs.Tabled.{Tabled}
-use Rattle.decide.specs.Decide.{Seen, Moved, lookIn, moreOf, otherOf, alongOf, gateOf, resumedOf, refusedOf, enteredTo, enteredOf, returnedOf, moving, ruled, ruleOf}
+use Rattle.decide.specs.Decide.{Seen, Moved, lookIn, moreOf, otherOf, alongOf, gateOf, resumedOf, behindOf, refusedOf, enteredTo, enteredOf, returnedOf, moving, ruled, ruleOf}
 use Rattle.machine.proofs.Room.{encl-room, stack-room, room}
 use Rattle.machine.proofs.Labels.{inside}
 use Rattle.machine.proofs.Landing.{topLabel, spotAt, Fate, Acts, lands, acts-push, acts-pop}
@@ -115,16 +115,16 @@ module _ {f : List ℕ} {t : Tree} (A : Accepts f t) {tab : List ℕ} (T : Table
 
     -- to the calling record c, in direction d′
     back : (q c : ℕ) (cs : List ℕ) (d′ : Dir) (ρ : Rec) → P .at c ≡ ρ → SimpleOk P c → P .first q < c → c < P .last q → Good P q cs → length (c ∷ cs) ≤ 64
-        → side (P .at c) c (opp d′) ≡ c → resumedOf tab c (dirNumber d) ≡ dirNumber d′ → Fate P (frames g (c ∷ cs)) σ (ruled (returnedOf (spotAt (frames g (c ∷ cs)) d (c ∷ cs) x) tab) σ) (ok (leave c d′ cs, σ))
+        → side (P .at c) c (opp d′) ≡ c → resumedOf tab c (dirNumber d) ≡ dirNumber d′ → behindOf tab c (dirNumber d) ≡ c → Fate P (frames g (c ∷ cs)) σ (ruled (returnedOf (spotAt (frames g (c ∷ cs)) d (c ∷ cs) x) tab) σ) (ok (leave c d′ cs, σ))
     unfolding returnedOf
-    back q c cs d′ ρ ac o lo hi good n sc rs =
+    back q c cs d′ ρ ac o lo hi good n sc rs bh =
         let F′ = fit t P q cs good (omega arith) c d′ lo hi in
         let old : frames g (c ∷ cs) ≡ called c ∷ (P .encl c ++ stack P cs) = rw en in
         let new : P .encl c ++ stack P cs ≡ P .encl (gap c d′) ++ stack P cs = ap (λ H. H ++ stack P cs) (encl-gap t (accepted-wf A) c d′ o) in
         let r : length (P .encl c ++ stack P cs) < 1104 = omega (arith, deeper, ap length new) in
         let z : eqb (suc (length cs)) 0 ≡ false = ne-eqb (suc (length cs)) 0 (λ e. omega arith) in
         let tl : topLabel (frames g (c ∷ cs)) ≡ c = ap topLabel old in
-        rw (z, tl, rs) (
+        rw (z, tl, rs, bh) (
           refl,
           lands A T (frames g (c ∷ cs)) m c d′ cs F′ (omega arith) refl (sym sc) refl
               (subst (λ H. Acts A T (frames g (c ∷ cs)) m H) new (subst (λ H. Acts A T H m (P .encl c ++ stack P cs)) (sym old) (acts-pop A T (P .encl c ++ stack P cs) r (called c) m cnt cnt refl refl))),
@@ -152,9 +152,11 @@ module _ {f : List ℕ} {t : Tree} (A : Accepts f t) {tab : List ℕ} (T : Table
         let h = inside A q′ c (omega arith) (omega arith) in
         let s : SimpleOk P c = (rw ac at (w A T G .here c)) .1 in
         let rs : resumedOf tab c (dirNumber d) ≡ dirNumber d = rw (kind-at A T G c h (callL q) ac) in
-        rw ac (back q′ c cs′ d (callL q) ac s lo hi o n (rw ac (side-call q c (opp d))) rs)
+        let bh : behindOf tab c (dirNumber d) ≡ c = rw (kind-at A T G c h (callL q) ac) in
+        rw ac (back q′ c cs′ d (callL q) ac s lo hi o n (rw ac (side-call q c (opp d))) rs bh)
     return-fate q cs (by-uncall {q′ = q′} {c = c} {cs = cs′} ac lo hi o) n =
         let h = inside A q′ c (omega arith) (omega arith) in
         let s : SimpleOk P c = (rw ac at (w A T G .here c)) .1 in
         let rs : resumedOf tab c (dirNumber d) ≡ dirNumber (opp d) = rw (kind-at A T G c h (uncallL q) ac) (other-is d) in
-        rw ac (back q′ c cs′ (opp d) (uncallL q) ac s lo hi o n (rw ac (side-uncall q c (opp (opp d)))) rs)
+        let bh : behindOf tab c (dirNumber d) ≡ c = rw (kind-at A T G c h (uncallL q) ac) in
+        rw ac (back q′ c cs′ (opp d) (uncallL q) ac s lo hi o n (rw ac (side-uncall q c (opp (opp d)))) rs bh)

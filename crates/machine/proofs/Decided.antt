@@ -15,7 +15,7 @@ use Rattle.place.specs.Places.{Frame}
 use Rattle.records.specs.Records.{if, fi, from, until, kind}
 use Rattle.order.specs.Trees.{Tree, recordsOf}
 use Rattle.program.specs.Says.{Accepts}
-use Rattle.records.specs.Reading.{stop, formedAs, recordAs}
+use Rattle.records.specs.Reading.{stop as ending, formedAs, recordAs}
 use Rattle.moves.specs.Labels.{at}
 use Rattle.moves.specs.Stores.{wrongValue, Answer, ok, no, bind, Store, layout, answered, evaluated, holds}
 use Rattle.moves.proofs.Linked.{Con, Rec, Prog, forget, headOf}
@@ -85,19 +85,19 @@ module _ {f : List ℕ} {t : Tree} (A : Accepts f t) {tab : List ℕ} (T : Table
   -- the expression of a test
   pub tree-if : (o : ℕ) (e : Expr) → Stands 5 bytes o (if e) → within 32768 bytes (o + 4) .tree ≡ e
   unfolding recordAs formedAs
-  tree-if o e q = let z : parse 16 bytes (o + 4) .tree ≡ e = let y = q .is in cc in ap (λ (g : Got). g .tree) (filled bytes (o + 4) (stop bytes o) (q .formed) (q .before)) ∙ z
+  tree-if o e q = let z : parse 16 bytes (o + 4) .tree ≡ e = let y = q .is in cc in ap (λ (g : Got). g .tree) (filled bytes (o + 4) (ending bytes o) (q .formed) (q .before)) ∙ z
 
   pub tree-fi : (o : ℕ) (e : Expr) → Stands 7 bytes o (fi e) → within 32768 bytes (o + 4) .tree ≡ e
   unfolding recordAs formedAs
-  tree-fi o e q = let z : parse 16 bytes (o + 4) .tree ≡ e = let y = q .is in cc in ap (λ (g : Got). g .tree) (filled bytes (o + 4) (stop bytes o) (q .formed) (q .before)) ∙ z
+  tree-fi o e q = let z : parse 16 bytes (o + 4) .tree ≡ e = let y = q .is in cc in ap (λ (g : Got). g .tree) (filled bytes (o + 4) (ending bytes o) (q .formed) (q .before)) ∙ z
 
   pub tree-from : (o : ℕ) (e : Expr) → Stands 8 bytes o (from e) → within 32768 bytes (o + 4) .tree ≡ e
   unfolding recordAs formedAs
-  tree-from o e q = let z : parse 16 bytes (o + 4) .tree ≡ e = let y = q .is in cc in ap (λ (g : Got). g .tree) (filled bytes (o + 4) (stop bytes o) (q .formed) (q .before)) ∙ z
+  tree-from o e q = let z : parse 16 bytes (o + 4) .tree ≡ e = let y = q .is in cc in ap (λ (g : Got). g .tree) (filled bytes (o + 4) (ending bytes o) (q .formed) (q .before)) ∙ z
 
   pub tree-until : (o : ℕ) (e : Expr) → Stands 10 bytes o (until e) → within 32768 bytes (o + 4) .tree ≡ e
   unfolding recordAs formedAs
-  tree-until o e q = let z : parse 16 bytes (o + 4) .tree ≡ e = let y = q .is in cc in ap (λ (g : Got). g .tree) (filled bytes (o + 4) (stop bytes o) (q .formed) (q .before)) ∙ z
+  tree-until o e q = let z : parse 16 bytes (o + 4) .tree ≡ e = let y = q .is in cc in ap (λ (g : Got). g .tree) (filled bytes (o + 4) (ending bytes o) (q .formed) (q .before)) ∙ z
 
   -- ---- closing and opening, by the frame
   module _ (fs : List Frame) (σ : Store) (S : Seen) (K : Answer (Cut × Store)) where

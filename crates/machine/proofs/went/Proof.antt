@@ -12,15 +12,13 @@ went-spec =
     (λ c κs. search needs)
     (λ c. search needs)
     (λ c κs. search needs)
-    (λ c. search needs)
-    (λ c κs. search needs)
     (λ c κs. search needs)
     (λ c κs. search needs)
     (λ c κs. search needs)
     (λ c κs. search needs)
     (λ c. search needs)
     (λ c.
-    let r = c .before in let g = r .before .before .before in let w = g .before .before .before .before .before .before in let k = w .before .before in let u = k .before .before .before in
-    let d = u .before .before in let a = d .before .before in
-    copied-goes _ _ _ _ _ _ _ _ _ _ _ _ _ _ _
-    (a .before .padded .ensures) (a .arrays .ensures) (d .gates .ensures) (u .gates2 .ensures) (k .calls .ensures) (w .widened .ensures) (g .go .ensures) (r .restored .ensures)))
+    let r = c .before in let g = r .before .before .before in let w = g .before .before .before .before .before in let k = w .before .before in let m = k .before .before .before in
+    let a = m .before .before in
+    copied-goes _ _ _ _ _ _ _ _ _ _ _ _ _ _
+    (a .before .padded .ensures) (a .arrays .ensures) (m .map .ensures) (k .calls .ensures) (w .widened .ensures) (g .go .ensures) (r .restored .ensures)))

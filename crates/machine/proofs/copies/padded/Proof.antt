@@ -11,7 +11,7 @@ use Rattle.machine.proofs.copies.padded.Statement.{statement}
 use Rattle.machine.proofs.copies.padded.Tie as tie
 
 abbrev Inv-loop : tie.InvT-loop
-Inv-loop file copy₀ n i₀ copy i = (i ≤ n) × (32768 ≡ length copy) × (copy ≡ take i file ++ drop i copy₀)
+Inv-loop file copy₀ n i₀ copy i = (i ≤ n) × (32784 ≡ length copy) × (copy ≡ take i file ++ drop i copy₀)
 
 abbrev μ-loop : tie.MeasureT-loop
 μ-loop file copy₀ n i₀ copy i = n - i
@@ -23,7 +23,7 @@ least-requires : tie.Need-least-requires Inv-loop μ-loop
 least-requires c κs = search needs
 
 loop-holds : tie.Need-loop-holds Inv-loop μ-loop
-loop-holds c = (omega arith, sym (ap length (c .before .no-bytes .ensures) ∙ length-bytes 32768), refl)
+loop-holds c = (omega arith, sym (ap length (c .before .no-bytes .ensures) ∙ length-bytes 32784), refl)
 
 shared-slice-read-copy : tie.Need-shared-slice-read-copy Inv-loop μ-loop
 shared-slice-read-copy c = omega arith
@@ -42,7 +42,7 @@ loop-again c =
     let f = c .before .before .before .before .before .before .args .file .now in
     let d = c .before .before .before .before .no-bytes .result in
     let l = c .before .before .loop in
-    let q : 32768 ≡ length d = sym (ap length (c .before .before .before .before .no-bytes .ensures) ∙ length-bytes 32768) in
+    let q : 32784 ≡ length d = sym (ap length (c .before .before .before .before .no-bytes .ensures) ∙ length-bytes 32784) in
     let h : l .i < length f = omega arith in
     let k : l .i < length d = omega arith in (
       omega arith,
@@ -56,7 +56,7 @@ returns c =
     let d = c .before .before .before .no-bytes .result in
     let e = c .before .before .before .no-bytes .ensures in
     let l = c .before .loop in
-    let q : 32768 ≡ length d = sym (ap length e ∙ length-bytes 32768) in
+    let q : 32784 ≡ length d = sym (ap length e ∙ length-bytes 32784) in
     let n : l .i ≡ min (length d) (length f) = omega arith in
     l .inv .2 ∙ (over-is f d (l .i) n ∙ ap (over f) e)
 

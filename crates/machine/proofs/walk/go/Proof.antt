@@ -15,6 +15,7 @@ use Rattle.machine.proofs.walk.go.Lts as lts
 use Rattle.machine.proofs.walk.ended.Reads as ended-reads
 use Rattle.machine.proofs.walk.put.Reads as put-reads
 use Rattle.machine.proofs.walk.spot.Reads as spot-reads
+use Rattle.machine.proofs.walk.way_of.Reads as way-of-reads
 
 abbrev Inv-loop : tie.InvT-loop
 Inv-loop bytes map arrays cells₀ calls n kinds₀ labels₀ way₀ a₀ count₀ deep₀ made₀ cells kinds labels way a count deep made =
@@ -27,26 +28,26 @@ abbrev μ-loop : tie.MeasureT-loop
     n - made
 
 abbrev Known : Type 0
-Known = lts.After-struct-known (spot-reads.Asked, spot-reads.Learnt, decide-reads.Asked, decide-reads.Learnt, ended-reads.Asked, ended-reads.Learnt, put-reads.Asked, put-reads.Learnt) reads.Pre reads.Post Inv-loop μ-loop
+Known = lts.After-struct-known (way-of-reads.Asked, way-of-reads.Learnt, spot-reads.Asked, spot-reads.Learnt, decide-reads.Asked, decide-reads.Learnt, ended-reads.Asked, ended-reads.Learnt, put-reads.Asked, put-reads.Learnt) reads.Pre reads.Post Inv-loop μ-loop
 
 abbrev Looped : Type 0
-Looped = lts.At-loop (spot-reads.Asked, spot-reads.Learnt, decide-reads.Asked, decide-reads.Learnt, ended-reads.Asked, ended-reads.Learnt, put-reads.Asked, put-reads.Learnt) reads.Pre reads.Post Inv-loop μ-loop
+Looped = lts.At-loop (way-of-reads.Asked, way-of-reads.Learnt, spot-reads.Asked, spot-reads.Learnt, decide-reads.Asked, decide-reads.Learnt, ended-reads.Asked, ended-reads.Learnt, put-reads.Asked, put-reads.Learnt) reads.Pre reads.Post Inv-loop μ-loop
 
 abbrev Started : Type 0
-Started = lts.Start (spot-reads.Asked, spot-reads.Learnt, decide-reads.Asked, decide-reads.Learnt, ended-reads.Asked, ended-reads.Learnt, put-reads.Asked, put-reads.Learnt) reads.Pre reads.Post Inv-loop μ-loop
+Started = lts.Start (way-of-reads.Asked, way-of-reads.Learnt, spot-reads.Asked, spot-reads.Learnt, decide-reads.Asked, decide-reads.Learnt, ended-reads.Asked, ended-reads.Learnt, put-reads.Asked, put-reads.Learnt) reads.Pre reads.Post Inv-loop μ-loop
 
-abbrev in-turn : Known → lts.In-loop (spot-reads.Asked, spot-reads.Learnt, decide-reads.Asked, decide-reads.Learnt, ended-reads.Asked, ended-reads.Learnt, put-reads.Asked, put-reads.Learnt) reads.Pre reads.Post Inv-loop μ-loop
+abbrev in-turn : Known → lts.In-loop (way-of-reads.Asked, way-of-reads.Learnt, spot-reads.Asked, spot-reads.Learnt, decide-reads.Asked, decide-reads.Learnt, ended-reads.Asked, ended-reads.Learnt, put-reads.Asked, put-reads.Learnt) reads.Pre reads.Post Inv-loop μ-loop
 in-turn k = k .before .before .before .before .before .before
 
 -- where the step stands
-abbrev spotted : (k : Known) → lts.After-spot (spot-reads.Asked, spot-reads.Learnt, decide-reads.Asked, decide-reads.Learnt, ended-reads.Asked, ended-reads.Learnt, put-reads.Asked, put-reads.Learnt) reads.Pre reads.Post Inv-loop μ-loop
+abbrev spotted : (k : Known) → lts.After-spot (way-of-reads.Asked, way-of-reads.Learnt, spot-reads.Asked, spot-reads.Learnt, decide-reads.Asked, decide-reads.Learnt, ended-reads.Asked, ended-reads.Learnt, put-reads.Asked, put-reads.Learnt) reads.Pre reads.Post Inv-loop μ-loop
 spotted k = k .before .before .before .before .before
 
 abbrev looped : Known → Looped
 looped k = in-turn k .before
 
 abbrev started : Known → Started
-started k = looped k .before .before .before
+started k = looped k .before .before .before .before
 
 -- the rule by the arrays that were lent
 abbrev rule : Started → Sight → Store → Ruled
@@ -56,9 +57,16 @@ rule s = ruleIn (s .args .bytes .now) (s .args .map .now) (s .args .arrays .now)
 abbrev held : Looped → Stand
 held l = record { way = l .loop .way; a = l .loop .a; count = l .loop .count; kinds = l .loop .kinds; labels = l .loop .labels }
 
+-- the place that the locals began with is the one that was given
+abbrev begun : Looped → Stand
+begun l = record { way = l .before .way-of .result; a = l .before .before .before .before .args .place .a; count = l .before .before .before .before .args .place .count; kinds = l .before .before .before .before .args .place .kinds; labels = l .before .before .before .before .args .place .labels }
+
+given : (l : Looped) → begun l ≡ standOf (l .before .before .before .before .args .place)
+given l = λ i. record { way = l .before .way-of .ensures i; a = l .before .before .before .before .args .place .a; count = l .before .before .before .before .args .place .count; kinds = l .before .before .before .before .args .place .kinds; labels = l .before .before .before .before .args .place .labels }
+
 -- the store that the decision left
 abbrev stored : Known → Store
-stored k = k .before .decide .last .1 .1 .1 .1 .1 .1 .1 .1 .0
+stored k = k .before .decide .last .1 .1 .1 .1 .1 .1 .0
 
 pub go-spec : {M : Type 1} → statement M
 go-spec =
@@ -66,18 +74,19 @@ go-spec =
     (tie.spec
     Inv-loop
     μ-loop
+    (λ c κs. search needs)
     (λ c. (omega arith, go-start _ _ _ _ _))
     (λ c κs. search needs)
     (λ c κs. search needs)
     (λ c κs. search needs)
-    (λ c. let k = c .before .before in goes-refused (rule (started k)) (started k .args .n) (started k .args .place) (started k .args .calls) (started k .args .cells .now) (looped k .loop .made) (held (looped k)) (looped k .loop .deep) (looped k .loop .cells) (looped k .loop .inv .1) (spotted k .spot .result) (spotted k .spot .ensures) (k .before .decide .result) (stored k) (k .before .decide .ensures) (in-turn k .loop-test .taken) _ (c .before .if1 .taken) (c .ended .ensures))
+    (λ c. let k = c .before .before in goes-refused (rule (started k)) (started k .args .n) (begun (looped k)) (started k .args .calls) (started k .args .cells .now) (looped k .loop .made) (held (looped k)) (looped k .loop .deep) (looped k .loop .cells) (looped k .loop .inv .1) (spotted k .spot .result) (spotted k .spot .ensures) (k .before .decide .result) (stored k) (k .before .decide .ensures) (in-turn k .loop-test .taken) (standOf (started k .args .place)) (given (looped k)) _ (c .before .if1 .taken) (c .ended .ensures))
     (λ c. omega (arith, in-turn (c .before) .loop-test .taken, started (c .before) .fits .n))
     (λ c κs. search needs)
     (λ c κs. search needs)
     (λ c. omega (arith, in-turn (c .before .before .before .before .before) .loop-test .taken))
     (λ c. let e = c .before .before .before .before in let k = e .before in (
       omega (arith, in-turn k .loop-test .taken),
-      goes-on (rule (started k)) (started k .args .n) (started k .args .place) (started k .args .calls) (started k .args .cells .now) (looped k .loop .made) (held (looped k)) (looped k .loop .deep) (looped k .loop .cells) (looped k .loop .inv .1) (spotted k .spot .result) (spotted k .spot .ensures) (k .before .decide .result) (stored k) (k .before .decide .ensures) (in-turn k .loop-test .taken) (e .if1 .left) _ _ (c .before .before .put .ensures) (c .put2 .ensures),
+      goes-on (rule (started k)) (started k .args .n) (begun (looped k)) (started k .args .calls) (started k .args .cells .now) (looped k .loop .made) (held (looped k)) (looped k .loop .deep) (looped k .loop .cells) (looped k .loop .inv .1) (spotted k .spot .result) (spotted k .spot .ensures) (k .before .decide .result) (stored k) (k .before .decide .ensures) (in-turn k .loop-test .taken) (e .if1 .left) _ _ (c .before .before .put .ensures) (c .put2 .ensures),
     ))
     (λ c κs. search needs)
-    (λ c. goes-done _ _ _ _ _ _ _ _ _ (c .before .before .loop .inv .1) _ (c .before .loop-test .left) (c .ended2 .ensures)))
+    (λ c. let l = c .before .before in goes-done _ _ _ _ _ _ _ _ _ (l .loop .inv .1) (standOf (l .before .before .before .before .args .place)) (given l) _ (c .before .loop-test .left) (c .ended2 .ensures)))
