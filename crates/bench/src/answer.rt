@@ -1,6 +1,7 @@
 // What each command answers: the bytes of the new session and the text to print. No file is touched here.
 ghost use Prim.Native.Nat.{_≤_};
 ghost use lib.ListN.{length};
+ghost use Rattle.io.specs.Counts.{Counts};
 ghost use Rattle.machine.specs.Answers.{direction};
 ghost use Rattle.print.specs.Lines.{refusedLine};
 ghost use Rattle.bench.specs.Room.{Room};
@@ -32,7 +33,7 @@ fn refused(number: u8, label: usize, buffer: &[u8], text: &mut [u8]) -> Answer
 
 // `check`
 pub(crate) fn checked(file: &[u8], text: &mut [u8]) -> usize
-    ensures { λ r. ⌜ r ≤ length (now (text .entry)) ⌝ }
+    ensures { λ r. ⌜ Counts r (now (text .exit)) ⌝ }
     ensures { λ r. ⌜ Checks (now (file .entry)) (now (text .entry)) (now (text .exit)) r ⌝ }
 {
     match program::check(file) {

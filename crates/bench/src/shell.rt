@@ -1,7 +1,7 @@
 // Files in, answers out: both files are read before either is judged, and a session is written before its answer is printed.
-ghost use mathlib.Core.Path.{_≡_};
 ghost use lib.ListN.{length};
-ghost use Rattle.bench.specs.Room.{Room};
+ghost use Rattle.io.specs.Counts.{Counts};
+ghost use Rattle.bench.specs.Room.{Room, Lent};
 use crate::answer::Answer;
 use crate::answer::answered;
 use crate::answer::cells_of;
@@ -22,27 +22,19 @@ const NAME: usize = 131072;
 
 const CELLS: usize = 2048;
 
-fn no_file() -> [u8; FILE]
-    ensures { λ r. ⌜ 32769 ≡ length r ⌝ }
-{
+fn no_file() -> [u8; FILE] {
     [0; FILE]
 }
 
-fn no_session() -> [u8; SESSION]
-    ensures { λ r. ⌜ 69961 ≡ length r ⌝ }
-{
+fn no_session() -> [u8; SESSION] {
     [0; SESSION]
 }
 
-fn no_name() -> [u8; NAME]
-    ensures { λ r. ⌜ 131072 ≡ length r ⌝ }
-{
+fn no_name() -> [u8; NAME] {
     [0; NAME]
 }
 
-fn zeros() -> [i32; CELLS]
-    ensures { λ r. ⌜ 2048 ≡ length r ⌝ }
-{
+fn zeros() -> [i32; CELLS] {
     [0; CELLS]
 }
 
@@ -87,12 +79,27 @@ fn check(file: &[u8]) {
     files::say(b"bench", &text[..n]);
 }
 
+// A store of zeros, of which the first `count` are the cells of the file's program.
+struct Fresh {
+    cells: [i32; CELLS],
+    count: usize,
+}
+
+fn store_of(file: &[u8]) -> Fresh
+    ensures { λ r. ⌜ Lent (r .count) (r .cells) ⌝ }
+{
+    let cells = zeros();
+    let count = cells_of(file);
+    Fresh { cells, count }
+}
+
 // What is done on the session with that name.
 fn on_session(deed: Deed, file: &[u8], name: &[u8], session: &[u8]) {
-    let mut store = zeros();
+    let fresh = store_of(file);
+    let mut store = fresh.cells;
+    let cells = fresh.count;
     let mut buffer = no_session();
     let mut text = io::large_buffer();
-    let cells = cells_of(file);
     let answer = answered(
         deed,
         file,
@@ -105,23 +112,42 @@ fn on_session(deed: Deed, file: &[u8], name: &[u8], session: &[u8]) {
 }
 
 fn start(up: bool, file: &[u8], name: &[u8]) {
-    let store = zeros();
+    let fresh = store_of(file);
+    let store = fresh.cells;
+    let cells = fresh.count;
     let mut buffer = no_session();
     let mut text = io::large_buffer();
-    let cells = cells_of(file);
     let answer = started(file, up, &store[..cells], &mut buffer, &mut text);
     finish(name, answer, &buffer, &text);
 }
 
-fn with_session(deed: Deed, file: &[u8], name: &[u8]) {
-    let mut session = no_session();
-    match files::read_named(name, &mut session) {
+// What was read is the first `size` bytes of the buffer; where nothing was, that was complained of.
+struct Content {
+    there: bool,
+    size: usize,
+}
+
+fn content_of(name: &[u8], buffer: &mut [u8]) -> Content
+    ensures { λ r. ⌜ Counts (r .size) (now (buffer .exit)) ⌝ }
+{
+    match files::read_named(name, buffer) {
         Got::Failed(error) => {
             complain(name, error);
+            Content {
+                there: false,
+                size: 0,
+            }
         }
-        Got::All(n) => {
-            on_session(deed, file, name, &session[..n]);
-        }
+        Got::All(size) => Content { there: true, size },
+    }
+}
+
+fn with_session(deed: Deed, file: &[u8], name: &[u8]) {
+    let mut session = no_session();
+    let got = content_of(name, &mut session);
+    let n = got.size;
+    if got.there {
+        on_session(deed, file, name, &session[..n]);
     }
 }
 
@@ -155,13 +181,10 @@ fn on_file(command: Command, file: &[u8]) {
 
 fn with_file(command: Command, name: &[u8]) {
     let mut file = no_file();
-    match files::read_named(name, &mut file) {
-        Got::Failed(error) => {
-            complain(name, error);
-        }
-        Got::All(n) => {
-            on_file(command, &file[..n]);
-        }
+    let got = content_of(name, &mut file);
+    let n = got.size;
+    if got.there {
+        on_file(command, &file[..n]);
     }
 }
 

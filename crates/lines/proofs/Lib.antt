@@ -1,3 +1,2 @@
 -- The laws of `lines`.
-pub mod Words
 pub mod Counting

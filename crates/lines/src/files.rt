@@ -1,6 +1,4 @@
 // The lines that read and save session files: `o` and `v`.
-ghost use mathlib.Core.Path.{_≡_};
-ghost use lib.ListN.{length};
 use crate::line::byte;
 use crate::line::field;
 use crate::line::first;
@@ -14,9 +12,7 @@ use place::Place;
 const ROOM: usize = 70000;
 
 // Zeros, made apart so that no goal carries them.
-fn empty_bytes() -> [u8; ROOM]
-    ensures { λ r. ⌜ 70000 ≡ length r ⌝ }
-{
+fn empty_bytes() -> [u8; ROOM] {
     [0; ROOM]
 }
 

@@ -1,6 +1,5 @@
 // The streams of the second program: command lines that set and move one program, place and store, and an answer line for each that moves, reads or saves.
 ghost use mathlib.Core.Path.{_≡_};
-ghost use lib.ListN.{length};
 ghost use Rattle.lines.specs.Line.{lineCount};
 use crate::files::kept;
 use crate::files::opened;
@@ -29,15 +28,11 @@ const ROOM: usize = 33000;
 const CELLS: usize = 2200;
 
 // Zeros, made apart so that no goal carries them.
-fn empty_file() -> [u8; ROOM]
-    ensures { λ r. ⌜ 33000 ≡ length r ⌝ }
-{
+fn empty_file() -> [u8; ROOM] {
     [0; ROOM]
 }
 
-fn empty_store() -> [i32; CELLS]
-    ensures { λ r. ⌜ 2200 ≡ length r ⌝ }
-{
+fn empty_store() -> [i32; CELLS] {
     [0; CELLS]
 }
 

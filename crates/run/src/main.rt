@@ -1,6 +1,5 @@
 // The program `run`: a program file on standard input, from its start down on zeros, at most 1,000,000 steps.
 ghost use mathlib.Core.Path.{_≡_};
-ghost use lib.ListN.{length};
 ghost use Rattle.print.specs.Lines.{putAll, afterAll};
 ghost use Rattle.run.specs.Report.{noughts, reportLines, Reports, Counted, Zeroed, Numbered};
 use files::Got;
@@ -16,9 +15,7 @@ const CELLS: usize = 2048;
 
 const STEPS: u32 = 1000000;
 
-fn no_file() -> [u8; ROOM]
-    ensures { λ r. ⌜ 32769 ≡ length r ⌝ }
-{
+fn no_file() -> [u8; ROOM] {
     [0; ROOM]
 }
 

@@ -1,7 +1,5 @@
 // Runs the program file on standard input down from the start on zeros, until it stops, for the benchmark speed/run to time.
 // The answer goes to standard output, the clock before and after the run to standard error: no test can hold a time.
-ghost use mathlib.Core.Path.{_≡_};
-ghost use lib.ListN.{length};
 use libc::STDERR_FILENO;
 use libc::STDIN_FILENO;
 use libc::STDOUT_FILENO;
@@ -16,9 +14,7 @@ const CELLS: usize = 2048;
 const MOST: u32 = 4294967295;
 
 // Zeros, made apart so that no goal carries them.
-fn empty_store() -> [i32; CELLS]
-    ensures { λ r. ⌜ 2048 ≡ length r ⌝ }
-{
+fn empty_store() -> [i32; CELLS] {
     [0; CELLS]
 }
 

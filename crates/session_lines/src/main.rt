@@ -1,14 +1,11 @@
 // The stream of sessions: reading and saving held to the second program's answers, between moves.
-ghost use Rattle.words.specs.Zeros.{Filled};
 use libc::STDIN_FILENO;
 
 // More bytes than all the cases have.
 const ALL: usize = 2097152;
 
-// Zeros, made apart so that no goal carries or counts them.
-fn empty_input() -> [u8; ALL]
-    ensures { λ r. ⌜ Filled 0 2097152 r ⌝ }
-{
+// Zeros, made apart so that no goal carries them.
+fn empty_input() -> [u8; ALL] {
     [0; ALL]
 }
 

@@ -19,8 +19,8 @@ abbrev μ-loop : tie.MeasureT-loop
 
 loop-holds : tie.Need-loop-holds Inv-loop μ-loop
 loop-holds c = (
-  c .before .before .empty-file .ensures,
-  c .before .empty-store .ensures,
+  search needs,
+  search needs,
   omega arith,
   omega arith,
   none _,

@@ -1,3 +1,4 @@
+-- `bench::answer::answered` meets its contract. Assumes nothing.
 use Rattle.bench.proofs.Answering.{read-refused, read-done}
 use borrow.Author.Needs.{needs}
 use Rattle.bench.proofs.answer.answered.Statement.{statement}

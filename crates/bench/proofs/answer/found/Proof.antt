@@ -1,3 +1,4 @@
+-- `bench::answer::found` meets its contract. Assumes nothing.
 use mir.Syntax.{w32}
 use mir.Facts.{toZ-ofZ}
 use Rattle.bench.specs.Answers as answers

@@ -1,3 +1,4 @@
+-- `bench::answer::set` meets its contract. Assumes nothing.
 use mathlib.Core.Path.{refl}
 use native.Mathlib.Omega.{arith}
 use mir.Facts.{toZ-ofZ}
