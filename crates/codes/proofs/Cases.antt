@@ -1,7 +1,8 @@
 -- What the functions of `codes` answer, case by case, over plain numbers and lists. Assumes nothing.
 use mathlib.Core.Path.{_≡_, sym, ap, _∙_}
-use mathlib.Core.List.{List}
+use mathlib.Core.List.{List, [], _∷_, _++_}
 use Prim.Native.Nat.{ℕ, suc, _+_, _*_, _/_, _%_, _≤_, _<_}
+use native.Mathlib.Nat.{add-zero}
 use native.Mathlib.Omega.{arith}
 use borrow.Author.Tests.{le-leb, lt-leb}
 use lib.IntN.{ℤ}
@@ -47,6 +48,13 @@ written-in s at b h = rw (le-leb (at + length b) (length s) h)
 pub written-out : (s : List ℕ) (at : ℕ) (b : List ℕ) → length s < at + length b → written s at b ≡ s
 unfolding written
 written-out s at b h = rw (lt-leb (at + length b) (length s) h)
+
+-- a run of stores, and then another from where it ended
+pub sets-append : {A : Type 0} (l : List A) (i : ℕ) (xs ys : List A) → sets l i (xs ++ ys) ≡ sets (sets l i xs) (i + length xs) ys
+sets-append l i [] ys = ap (λ (k : ℕ). sets l k ys) (sym (add-zero i))
+sets-append l i (x ∷ xs) ys =
+    let e : suc i + length xs ≡ i + suc (length xs) = omega arith in
+    sets-append (set l i x) (suc i) xs ys ∙ ap (λ (k : ℕ). sets (sets (set l i x) (suc i) xs) k ys) e
 
 one-on : (i : ℕ) → i + 1 ≡ suc i
 one-on i = omega arith

@@ -11,10 +11,10 @@ use lib.Dec.{leb}
 use lib.IntN.{ℤ, pos, negsuc}
 use lib.ListN.{length, getD, drop, drop-of-length-le}
 use lib.Seq.{drop-cons, sets, length-sets}
-use borrow.Author.Tests.{leb-true}
 use mir.Syntax.{w32}
 use mir.Val.{SFits, ofZ}
 use Rattle.words.specs.Words.{put, after}
+use Rattle.words.proofs.Writing.{after-within}
 use Rattle.print.specs.Lines.{putAll, afterAll, frameLine, frameLines, cellLine, shown, cellLines}
 
 -- The row ws, written into b at `at`, leaves c, and the position after it is r.
@@ -100,14 +100,7 @@ kept b w at = go (leb (at + length w) (length b))
     go true = simp length-sets
     go false = refl
 
-past : (b w : List ℕ) (at : ℕ) → at ≤ length b → after b at w ≤ length b
-past b w at h = go (leb (at + length w) (length b)) refl
-  where
-    go : (t : Bool) → leb (at + length w) (length b) ≡ t → cond t (at + length w) at ≤ length b
-    go true e = leb-true (at + length w) (length b) e
-    go false e = h
-
 pub within : (b : List ℕ) (at : ℕ) (ws : List (List ℕ)) → at ≤ length b → afterAll b at ws ≤ length b
 unfolding afterAll
 within b at [] h = h
-within b at (w ∷ ws) h = rw (kept b w at) at (within (put b at w) (after b at w) ws (rw (kept b w at) (past b w at h)))
+within b at (w ∷ ws) h = rw (kept b w at) at (within (put b at w) (after b at w) ws (rw (kept b w at) (after-within b w at h)))
