@@ -75,16 +75,10 @@ module _ (s : List ℕ) (at : ℕ) where
       let z : u ≡ ofZ w32 v = e ∙ ap (ofZ w32) (toZ-ofZ f) in
       rw (written-in s at (cellBytes v) (omega arith), one-on at, two-on at, three-on at, z)
 
-  pub no-two : (v : ℕ) → length s < at + 2 → s ≡ written s at (bytes16 v)
-  no-two v h = sym (written-out s at (bytes16 v) (omega arith))
+  pub no-room : (b : List ℕ) → length s < at + length b → s ≡ written s at b
+  no-room b h = sym (written-out s at b h)
 
-  pub no-two-out : (v : ℕ) → length s ≤ at → s ≡ written s at (bytes16 v)
-  no-two-out v h = no-two v (omega arith)
+  pub no-place : (x : ℕ) (b : List ℕ) → length s ≤ at → s ≡ written s at (x ∷ b)
+  no-place x b h = no-room (x ∷ b) (omega arith)
 
-  pub no-four : (v : ℤ) → length s < at + 4 → s ≡ written s at (cellBytes v)
-  no-four v h = sym (written-out s at (cellBytes v) (omega arith))
-
-  pub no-four-out : (v : ℤ) → length s ≤ at → s ≡ written s at (cellBytes v)
-  no-four-out v h = no-four v (omega arith)
-
-pub ruleset writing = (put-two, put-four, no-two, no-two-out, no-four, no-four-out)
+pub ruleset writing = (put-two, put-four, no-room, no-place)

@@ -1,7 +1,7 @@
 -- A row of pieces is written one piece after another.
 --     piece, joined    a piece and a row, two rows
 --     whole            where all of it fits, the row's bytes stand at the position
-use mathlib.Core.Path.{_≡_, refl, ap}
+use mathlib.Core.Path.{_≡_, refl, sym, ap, _∙_}
 use mathlib.Core.Bool.{Bool, true, false, cond}
 use mathlib.Core.List.{List, [], _∷_, _++_}
 use Prim.Native.Nat.{ℕ, zero, suc, _+_, _-_, _≤_, _<_}
@@ -12,7 +12,8 @@ use lib.IntN.{ℤ, pos, negsuc}
 use lib.ListN.{length, getD, drop, drop-of-length-le}
 use lib.Seq.{drop-cons, sets, length-sets}
 use mir.Syntax.{w32}
-use mir.Val.{SFits, ofZ}
+use mir.Val.{SFits, toZ, ofZ}
+use mir.Facts.{toZ-ofZ}
 use Rattle.words.specs.Words.{put, after}
 use Rattle.words.proofs.Writing.{after-within}
 use Rattle.print.specs.Lines.{putAll, afterAll, frameLine, frameLines, cellLine, shown, cellLines}
@@ -64,8 +65,7 @@ shown-some i (negsuc n) h = refl
 
 -- ---- a cell's test for 0, on its bits
 pub zero-bits : (v : ℤ) → SFits w32 v → ofZ w32 v ≡ 0 → v ≡ pos 0
-zero-bits (pos n) f e = ap pos e
-zero-bits (negsuc n) f e = absurd (omega arith)
+zero-bits v f e = sym (toZ-ofZ f) ∙ ap (toZ w32) e
 
 -- ---- the loops: what finishes from here finishes the whole
 abbrev pub Finishes : List ℕ → ℕ → List (List ℕ) → List ℕ → ℕ → List (List ℕ) → Type 0
