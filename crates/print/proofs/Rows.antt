@@ -2,20 +2,18 @@
 --     piece, joined    a piece and a row, two rows
 --     whole            where all of it fits, the row's bytes stand at the position
 use mathlib.Core.Path.{_≡_, refl, sym, ap, _∙_}
-use mathlib.Core.Bool.{Bool, true, false, cond}
 use mathlib.Core.List.{List, [], _∷_, _++_}
 use Prim.Native.Nat.{ℕ, zero, suc, _+_, _-_, _≤_, _<_}
 use native.Mathlib.Numerals.{add-one}
 use native.Mathlib.Omega.{arith}
-use lib.Dec.{leb}
 use lib.IntN.{ℤ, pos, negsuc}
 use lib.ListN.{length, getD, drop, drop-of-length-le}
-use lib.Seq.{drop-cons, sets, length-sets}
+use lib.Seq.{drop-cons}
 use mir.Syntax.{w32}
 use mir.Val.{SFits, toZ, ofZ}
 use mir.Facts.{toZ-ofZ}
 use Rattle.words.specs.Words.{put, after}
-use Rattle.words.proofs.Writing.{after-within}
+use Rattle.words.proofs.Writing.{after-within, length-put}
 use Rattle.print.specs.Lines.{putAll, afterAll, frameLine, frameLines, cellLine, shown, cellLines}
 
 -- The row ws, written into b at `at`, leaves c, and the position after it is r.
@@ -93,14 +91,7 @@ pub frames-end :
 frames-end b₀ b at i n all ks ls e f = f b n (rw (frames-none ks ls i e) (none b n))
 
 -- ---- a row stays within its buffer
-kept : (b w : List ℕ) (at : ℕ) → length (put b at w) ≡ length b
-kept b w at = go (leb (at + length w) (length b))
-  where
-    go : (t : Bool) → length (cond t (sets b at w) b) ≡ length b
-    go true = simp length-sets
-    go false = refl
-
 pub within : (b : List ℕ) (at : ℕ) (ws : List (List ℕ)) → at ≤ length b → afterAll b at ws ≤ length b
 unfolding afterAll
 within b at [] h = h
-within b at (w ∷ ws) h = rw (kept b w at) at (within (put b at w) (after b at w) ws (rw (kept b w at) (after-within b w at h)))
+within b at (w ∷ ws) h = rw (length-put b w at) at (within (put b at w) (after b at w) ws (rw (length-put b w at) (after-within b w at h)))
