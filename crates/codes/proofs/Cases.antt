@@ -1,7 +1,8 @@
 -- What the functions of `codes` answer, case by case, over plain numbers and lists. Assumes nothing.
 use mathlib.Core.Path.{_≡_, sym, ap, _∙_}
-use mathlib.Core.List.{List}
+use mathlib.Core.List.{List, [], _∷_, _++_}
 use Prim.Native.Nat.{ℕ, suc, _+_, _*_, _/_, _%_, _≤_, _<_}
+use native.Mathlib.Nat.{add-zero}
 use native.Mathlib.Omega.{arith}
 use borrow.Author.Tests.{le-leb, lt-leb}
 use lib.IntN.{ℤ}
@@ -48,6 +49,13 @@ pub written-out : (s : List ℕ) (at : ℕ) (b : List ℕ) → length s < at + l
 unfolding written
 written-out s at b h = rw (lt-leb (at + length b) (length s) h)
 
+-- a run of stores, and then another from where it ended
+pub sets-append : {A : Type 0} (l : List A) (i : ℕ) (xs ys : List A) → sets l i (xs ++ ys) ≡ sets (sets l i xs) (i + length xs) ys
+sets-append l i [] ys = ap (λ (k : ℕ). sets l k ys) (sym (add-zero i))
+sets-append l i (x ∷ xs) ys =
+    let e : suc i + length xs ≡ i + suc (length xs) = omega arith in
+    sets-append (set l i x) (suc i) xs ys ∙ ap (λ (k : ℕ). sets (sets (set l i x) (suc i) xs) k ys) e
+
 one-on : (i : ℕ) → i + 1 ≡ suc i
 one-on i = omega arith
 
@@ -67,16 +75,10 @@ module _ (s : List ℕ) (at : ℕ) where
       let z : u ≡ ofZ w32 v = e ∙ ap (ofZ w32) (toZ-ofZ f) in
       rw (written-in s at (cellBytes v) (omega arith), one-on at, two-on at, three-on at, z)
 
-  pub no-two : (v : ℕ) → length s < at + 2 → s ≡ written s at (bytes16 v)
-  no-two v h = sym (written-out s at (bytes16 v) (omega arith))
+  pub no-room : (b : List ℕ) → length s < at + length b → s ≡ written s at b
+  no-room b h = sym (written-out s at b h)
 
-  pub no-two-out : (v : ℕ) → length s ≤ at → s ≡ written s at (bytes16 v)
-  no-two-out v h = no-two v (omega arith)
+  pub no-place : (x : ℕ) (b : List ℕ) → length s ≤ at → s ≡ written s at (x ∷ b)
+  no-place x b h = no-room (x ∷ b) (omega arith)
 
-  pub no-four : (v : ℤ) → length s < at + 4 → s ≡ written s at (cellBytes v)
-  no-four v h = sym (written-out s at (cellBytes v) (omega arith))
-
-  pub no-four-out : (v : ℤ) → length s ≤ at → s ≡ written s at (cellBytes v)
-  no-four-out v h = no-four v (omega arith)
-
-pub ruleset writing = (put-two, put-four, no-two, no-two-out, no-four, no-four-out)
+pub ruleset writing = (put-two, put-four, no-room, no-place)

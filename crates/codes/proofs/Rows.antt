@@ -1,9 +1,8 @@
 -- Numbers in a row of bytes. Assumes nothing.
 --     short-bytes, cell-bytes    the bytes that stand where a number is read are that number's
 --     short-back, cell-back      where a number's bytes stand, that number is read
---     short-kept, cell-kept      and so after they are written
 use mathlib.Core.Path.{_≡_, refl, sym, ap, _∙_}
-use mathlib.Core.List.{List, _∷_, _++_, append-assoc}
+use mathlib.Core.List.{List, _∷_, _++_}
 use Prim.Native.Nat.{ℕ, suc, _+_, _^_, _≤_, _<_}
 use native.Mathlib.Nat.{add-zero}
 use native.Mathlib.Numerals.{add-one}
@@ -11,15 +10,14 @@ use native.Mathlib.Omega.{arith}
 use mathlib.Core.Bool.{Bool, true, false, cond}
 use lib.Dec.{leb}
 use lib.IntN.{ℤ}
-use lib.ListN.{length, getD, take, drop}
-use lib.Seq.{sets, sets-eq, length-sets, length-take-le, drop-cons, drop-at, getD-drop}
+use lib.ListN.{length, getD, drop}
+use lib.Seq.{sets, length-sets, drop-cons, getD-drop}
 use mir.Syntax.{w32}
 use mir.Val.{SFits, ofZ, toZ}
 use mir.Facts.{toZ-ofZ, ofZ-toZ, sfits-toZ, fits-ofZ}
 use Rattle.codes.specs.Codes.{bytes16, cellBytes, word16, AllBytes}
 use Rattle.codes.specs.Numbers.{bytes32, word32, cellAt, written}
 use Rattle.codes.proofs.Digits.{number16, number32, digits16, digits32}
-use Rattle.codes.proofs.Cases.{written-in}
 
 -- ---- the bytes at a position, one by one
 module _ (s : List ℕ) (at : ℕ) where
@@ -79,17 +77,3 @@ length-written s at b = go (leb (at + length b) (length s))
     go : (c : Bool) → length (cond c (sets s at b) s) ≡ length s
     go true = length-sets s at b
     go false = refl
-
-module _ (s : List ℕ) (at : ℕ) (b : List ℕ) (h : at + length b ≤ length s) where
-  parts : written s at b ≡ take at s ++ (b ++ drop (at + length b) s)
-  parts = written-in s at b h ∙ sets-eq b s at h ∙ append-assoc (take at s) b (drop (at + length b) s)
-
-  pub written-drop : drop at (written s at b) ≡ b ++ drop (at + length b) s
-  written-drop = rw parts (drop-at (take at s) _ at (length-take-le at s (omega arith)))
-
-module _ (s : List ℕ) (at : ℕ) where
-  pub short-kept : (v : ℕ) → v < 2 ^ 16 → at + 2 ≤ length s → word16 (written s at (bytes16 v)) at ≡ v
-  short-kept v k h = short-back (written s at (bytes16 v)) at _ v k (written-drop s at (bytes16 v) h)
-
-  pub cell-kept : (z : ℤ) → SFits w32 z → at + 4 ≤ length s → cellAt (written s at (cellBytes z)) at ≡ z
-  cell-kept z f h = cell-back (written s at (cellBytes z)) at _ z f (written-drop s at (cellBytes z) h)

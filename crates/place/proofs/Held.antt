@@ -12,7 +12,7 @@ use borrow.Author.Tests.{eq-eqb, eqb-true, eqb-false, leb-true, leb-false}
 use mathlib.Core.List.{List, [], _∷_, _++_, map, reverse, reverse-cons, append-assoc}
 use Prim.Native.Nat.{ℕ, zero, suc, _+_, _-_, _≤_, _<_}
 use native.Mathlib.Omega.{arith}
-use lib.ListN.{length, length-map, getD, take, drop, replicate, length-append, length-reverse, length-drop, length-replicate, getD-replicate, take-append-drop}
+use lib.ListN.{length, length-map, getD, take, drop, replicate, length-reverse, length-drop, length-replicate, getD-replicate, take-append-drop}
 use lib.Seq.{getD-at, getD-drop, take-suc, ext-getD, getD-append-add}
 use Rattle.place.specs.declared.Place.{Place as Held}
 use Rattle.place.specs.Places.{Dir, down, up, Frame, inThen, inElse, inDo, inLoop, called, frameKind, frameLabel, Place}
@@ -121,9 +121,6 @@ module _ (h : Held) (lk : length (h .kinds) ≡ 1104) (ll : length (h .labels) �
 
   pub plain-yes : Plain h
   plain-yes = record { place = seen h; room = omega (arith, count-is); holds = sym held-seen }
-
-pub length-slots : (xs : List ℕ) → length xs ≤ 1104 → length (slots xs) ≡ 1104
-length-slots xs h = omega (arith, length-append (reverse xs) (replicate (1104 - length xs) 0), length-reverse xs, length-replicate {A = ℕ} (1104 - length xs) 0)
 
 -- ---- what is so of each struct that holds a place
 pub dir-small : (d : Dir) → dirNumber d ≤ 1

@@ -2,8 +2,8 @@
 --     blank-held, turned-held, moved-held     all zeros; the same edge the other way; the same frames at another edge
 --     pushed-held, popped-held, changed-held  a frame more; the innermost less; the innermost with another kind
 --     top-held, top-held-none                 the innermost frame
---     turned-twice, popped-pushed             a turn and a push undone
-use mathlib.Core.Path.{_≡_, refl, sym, ap, _∙_}
+--     turned-twice                            a turn undone
+use mathlib.Core.Path.{_≡_, refl, sym, _∙_}
 use mathlib.Core.List.{List, [], _∷_, map, reverse, reverse-cons, append-assoc}
 use Prim.Native.Nat.{ℕ, zero, suc, _-_, _<_}
 use native.Mathlib.Numerals.{add-one}
@@ -95,9 +95,6 @@ module _ (p : Place) (f : Frame) (fs : List Frame) where
 
     pub top-held : topIn (held (framed p (f ∷ fs))) ≡ record { kind = frameKind f; label = frameLabel f }
     top-held = rw (top-of-slots frameKind 9, top-of-slots frameLabel 0)
-
-    pub popped-pushed : poppedOf (pushedOf (held (framed p fs)) (frameKind f) (frameLabel f)) ≡ held (framed p fs)
-    popped-pushed = ap poppedOf (pushed-held h) ∙ popped-held
 
 pub top-held-none : (p : Place) → topIn (held (framed p [])) ≡ record { kind = 9; label = 0 }
 top-held-none p = rw (← top-none (slots []) 0 9 refl, ← top-none (slots []) 0 0 refl)

@@ -1,20 +1,19 @@
 -- A row of pieces is written one piece after another.
 --     piece, joined    a piece and a row, two rows
 --     whole            where all of it fits, the row's bytes stand at the position
-use mathlib.Core.Path.{_≡_, refl, ap}
-use mathlib.Core.Bool.{Bool, true, false, cond}
+use mathlib.Core.Path.{_≡_, refl, sym, ap, _∙_}
 use mathlib.Core.List.{List, [], _∷_, _++_}
 use Prim.Native.Nat.{ℕ, zero, suc, _+_, _-_, _≤_, _<_}
 use native.Mathlib.Numerals.{add-one}
 use native.Mathlib.Omega.{arith}
-use lib.Dec.{leb}
 use lib.IntN.{ℤ, pos, negsuc}
 use lib.ListN.{length, getD, drop, drop-of-length-le}
-use lib.Seq.{drop-cons, sets, length-sets}
-use borrow.Author.Tests.{leb-true}
+use lib.Seq.{drop-cons}
 use mir.Syntax.{w32}
-use mir.Val.{SFits, ofZ}
+use mir.Val.{SFits, toZ, ofZ}
+use mir.Facts.{toZ-ofZ}
 use Rattle.words.specs.Words.{put, after}
+use Rattle.words.proofs.Writing.{after-within, length-put}
 use Rattle.print.specs.Lines.{putAll, afterAll, frameLine, frameLines, cellLine, shown, cellLines}
 
 -- The row ws, written into b at `at`, leaves c, and the position after it is r.
@@ -64,8 +63,7 @@ shown-some i (negsuc n) h = refl
 
 -- ---- a cell's test for 0, on its bits
 pub zero-bits : (v : ℤ) → SFits w32 v → ofZ w32 v ≡ 0 → v ≡ pos 0
-zero-bits (pos n) f e = ap pos e
-zero-bits (negsuc n) f e = absurd (omega arith)
+zero-bits v f e = sym (toZ-ofZ f) ∙ ap (toZ w32) e
 
 -- ---- the loops: what finishes from here finishes the whole
 abbrev pub Finishes : List ℕ → ℕ → List (List ℕ) → List ℕ → ℕ → List (List ℕ) → Type 0
@@ -93,21 +91,7 @@ pub frames-end :
 frames-end b₀ b at i n all ks ls e f = f b n (rw (frames-none ks ls i e) (none b n))
 
 -- ---- a row stays within its buffer
-kept : (b w : List ℕ) (at : ℕ) → length (put b at w) ≡ length b
-kept b w at = go (leb (at + length w) (length b))
-  where
-    go : (t : Bool) → length (cond t (sets b at w) b) ≡ length b
-    go true = simp length-sets
-    go false = refl
-
-past : (b w : List ℕ) (at : ℕ) → at ≤ length b → after b at w ≤ length b
-past b w at h = go (leb (at + length w) (length b)) refl
-  where
-    go : (t : Bool) → leb (at + length w) (length b) ≡ t → cond t (at + length w) at ≤ length b
-    go true e = leb-true (at + length w) (length b) e
-    go false e = h
-
 pub within : (b : List ℕ) (at : ℕ) (ws : List (List ℕ)) → at ≤ length b → afterAll b at ws ≤ length b
 unfolding afterAll
 within b at [] h = h
-within b at (w ∷ ws) h = rw (kept b w at) at (within (put b at w) (after b at w) ws (rw (kept b w at) (past b w at h)))
+within b at (w ∷ ws) h = rw (length-put b w at) at (within (put b at w) (after b at w) ws (rw (length-put b w at) (after-within b w at h)))

@@ -1,7 +1,6 @@
 -- The computed reader answers what the file says, and each place and store has one file. Assumes nothing.
 --     reading-sound     what is found in a file of bytes is what the file says
 --     reading-complete  what a file says is found in it
---     found-room        of at most 1,104 frames, whatever the list
 --     malformed-reads   a malformed file says nothing; reads-nothing: and a file of bytes that says nothing is malformed
 --     encode-injective  two different places or stores have different files
 use mathlib.Core.Path.{_≡_, refl, sym, ap, _∙_, subst}
@@ -140,13 +139,6 @@ reading-sound s B p zs e =
     let x : found (placeAt s) (cellsAt s) ≡ found p zs = sym (it .0) ∙ e in
     subst (λ (q : Place). Reads s q zs) (found-place (placeAt s) p (cellsAt s) zs x) (subst (λ (ys : List ℤ). Reads s (placeAt s) ys) (found-cells (placeAt s) p (cellsAt s) zs x) (says s B (it .1)))
 
-pub found-room : (s : List ℕ) (p : Place) (zs : List ℤ) → reading s ≡ found p zs → length (p .frames) ≤ 1104
-found-room s p zs e =
-    let it = found-is s (sym (ap isFound e)) in
-    let x : placeAt s ≡ p = found-place (placeAt s) p (cellsAt s) zs (sym (it .0) ∙ e) in
-    let n = it .1 .head .count in
-    subst (λ (q : Place). length (q .frames) ≤ 1104) x (omega (arith, length-framesAt (word16 s 10) (drop 12 s)))
-
 -- ---- from what a file says to the bytes
 frames-found : (fs : List Frame) (rest : List ℕ) → LabelsFit fs → framesAt (length fs) (encodeFrames fs ++ rest) ≡ fs
 unfolding framesAt flatMap
@@ -228,11 +220,8 @@ reads-nothing s B none = go (reading s) refl
     go malformed e = e
     go (found p zs) e = absurd (none p zs (reading-sound s B p zs e))
 
--- ---- one file for a place and a store, and one place and store for a file
+-- ---- one place and store for a file
 pub encode-injective : (p q : Place) (zs ys : List ℤ) → Fit p zs → Fit q ys → encode p zs ≡ encode q ys → (p ≡ q) × (zs ≡ ys)
 encode-injective p q zs ys f g e =
     let x : found p zs ≡ found q ys = sym (reading-encode p zs f) ∙ ap reading e ∙ reading-encode q ys g in
     (found-place p q zs ys x, found-cells p q zs ys x)
-
-pub one-file : (s t : List ℕ) (p : Place) (zs : List ℤ) → AllBytes s → AllBytes t → reading s ≡ found p zs → reading t ≡ found p zs → s ≡ t
-one-file s t p zs B C e f = reading-sound s B p zs e .file ∙ sym (reading-sound t C p zs f .file)

@@ -1,13 +1,12 @@
 -- Bytes written one after the other, and the loops that write frames and cells. Assumes nothing.
---     sets-append, on        a run of stores, and then another from where it ended
+--     on                     a run of stores, and then another from where it ended
 --     pair, headed           two numbers; what stands before the frames
 --     frames-go, frames-end  the loop over the frames, the innermost first
 --     cells-go, cells-end    the loop over the cells
 --     copy-go, copy-end      the loop that reads them back
 use mathlib.Core.Path.{_≡_, refl, sym, ap, _∙_}
-use mathlib.Core.List.{List, [], _∷_, _++_, flatMap}
+use mathlib.Core.List.{List, _∷_, _++_, flatMap}
 use Prim.Native.Nat.{ℕ, suc, _+_, _*_, _-_, _/_, _%_, _≤_, _<_}
-use native.Mathlib.Nat.{add-zero}
 use native.Mathlib.Numerals.{add-one}
 use native.Mathlib.Omega.{arith}
 use lib.IntN.{ℤ, pos}
@@ -18,7 +17,7 @@ use mir.Val.{SFits, toZ, ofZ}
 use mir.Facts.{toZ-ofZ}
 use Rattle.codes.specs.Codes.{bytes16, cellBytes}
 use Rattle.codes.specs.Numbers.{cellAt, written}
-use Rattle.codes.proofs.Cases.{written-in}
+use Rattle.codes.proofs.Cases.{written-in, sets-append}
 use Rattle.codes.proofs.Rows.{length-written}
 use Rattle.session.specs.Parts.{encodeHead, encodeCells}
 use Rattle.session.specs.Reader.{cellsFrom}
@@ -26,12 +25,6 @@ use Rattle.session.specs.Answers.{slotBytes}
 use Rattle.session.proofs.Rows.{cell-at, less, none}
 
 -- ---- runs of stores
-pub sets-append : {A : Type 0} (l : List A) (i : ℕ) (xs ys : List A) → sets l i (xs ++ ys) ≡ sets (sets l i xs) (i + length xs) ys
-sets-append l i [] ys = ap (λ (k : ℕ). sets l k ys) (sym (add-zero i))
-sets-append l i (x ∷ xs) ys =
-    let e : suc i + length xs ≡ i + suc (length xs) = omega arith in
-    sets-append (set l i x) (suc i) xs ys ∙ ap (λ (k : ℕ). sets (sets (set l i x) (suc i) xs) k ys) e
-
 pub on : {A : Type 0} (l m n : List A) (at k : ℕ) (xs ys : List A) → k ≡ at + length xs → m ≡ sets l at xs → n ≡ sets m k ys → n ≡ sets l at (xs ++ ys)
 on l m n at k xs ys e p q = q ∙ (λ i. sets (p i) (e i) ys) ∙ sym (sets-append l at xs ys)
 

@@ -11,9 +11,9 @@ use lib.Dec.{T, eqb, leb, ltb, ltb→lt, nltb→le, lit<}
 use lib.Arith.{lt-of-le-ne, bin-ind, digits-div, digits-mod}
 use lib.Bits.{bitXor, bitAnd, differ, and-mask, xor-step, xor-self}
 use borrow.Author.Tests.{eq-eqb, ne-eqb, ltb-true, leb-true, leb-false}
-use mir.Syntax.{w32, w64}
-use mir.Val.{toZ, ofZ, boolByte, Fits, SFits}
-use mir.Facts.{toZ-ofZ, toZ-pos, toZ-neg, sfits-widen, sfits-toZ}
+use mir.Syntax.{Width, w32, w64}
+use mir.Val.{bits, hbits, toZ, ofZ, boolByte, Fits, SFits}
+use mir.Facts.{toZ-ofZ, toZ-pos, toZ-neg, sfits-widen, sfits-toZ, fits-ofZ}
 use Rattle.values.specs.Values.{truth, isTrue, eqZ}
 use Rattle.values.specs.Packed.{low32}
 
@@ -73,18 +73,24 @@ bits-wide h = sfits-widen {w = w32} tt (sfits-toZ h)
 pub bits-read : {n : ℕ} → Fits w32 n → toZ w64 (ofZ w64 (toZ w32 n)) ≡ toZ w32 n
 bits-read h = toZ-ofZ (bits-wide h)
 
--- ---- the complement of an i32
+-- ---- the complement, of any width
 abbrev pub notZ : ℤ → ℤ
 notZ (pos n) = negsuc n
 notZ (negsuc n) = pos n
 
-pub not-reads : (z : ℤ) → SFits w32 z → toZ w32 (4294967295 - ofZ w32 z) ≡ notZ z
-not-reads (pos n) h =
-    let e : 4294967295 - n ≡ 4294967296 - suc n = omega arith in
-    ap (toZ w32) e ∙ toZ-neg w32 n (h .sfits)
-not-reads (negsuc n) h =
-    let e : 4294967295 - (4294967296 - suc n) ≡ n = omega arith in
-    ap (toZ w32) e ∙ toZ-pos w32 (h .sfits)
+pub not-reads : (w : Width) (z : ℤ) → SFits w z → toZ w (2 ^ bits w - 1 - ofZ w z) ≡ notZ z
+not-reads w (pos n) h =
+    let e : 2 ^ bits w - 1 - n ≡ 2 ^ bits w - suc n = omega arith in
+    ap (toZ w) e ∙ toZ-neg w n (h .sfits)
+not-reads w (negsuc n) h =
+    let e : 2 ^ bits w - 1 - (2 ^ bits w - suc n) ≡ n = less (2 ^ bits w) n (below w n (h .sfits)) in
+    ap (toZ w) e ∙ toZ-pos w (h .sfits)
+  where
+    less : (m n : ℕ) → n < m → m - 1 - (m - suc n) ≡ n
+    less m n l = omega arith
+
+    below : (w : Width) (n : ℕ) → n < 2 ^ hbits w → n < 2 ^ bits w
+    below w n l = fits-ofZ {w = w} {z = pos n} (record { sfits = l }) .fits
 
 -- ---- what `to_bits` needs, of a number below 0 and of another
 pub below-cast : (x : ℤ) → SFits w32 x → ltZ x (pos 0) ≡ true → T (nonNeg (notZ x)) × Fits w32 (natAbs (notZ x))
@@ -150,18 +156,22 @@ low-neg (pos zero) = refl
 low-neg (pos (suc n)) = omega arith
 low-neg (negsuc n) = omega arith
 
--- ---- the kit's wrapping sum and difference of the bits
-pub sum-bits : {x y : ℤ} → SFits w32 x → SFits w32 y → (ofZ w32 x + ofZ w32 y) % 2 ^ 32 ≡ low32 (x +ℤ y)
-sum-bits {x} {y} h k = sym (low-add x y ∙ ap₂ (λ (a b : ℕ). (a + b) % 2 ^ 32) (low-is x h) (low-is y k))
+-- ---- the kit's wrapping sum and difference r of the bits a and b of two locals
+given-bits : {x : ℤ} {a : ℕ} → SFits w32 x → a ≡ ofZ w32 (toZ w32 (ofZ w32 x)) → a ≡ low32 x
+given-bits {x} h e = e ∙ ap (ofZ w32) (toZ-ofZ h) ∙ sym (low-is x h)
 
--- r is what b is added to for a
-sole-difference : (r a b : ℕ) → r < 2 ^ 32 → a < 2 ^ 32 → b < 2 ^ 32 → (r + b) % 2 ^ 32 ≡ a → r ≡ (a + (2 ^ 32 - b) % 2 ^ 32) % 2 ^ 32
-sole-difference r a b h k l e = omega arith
+module _ {x y : ℤ} {a b r : ℕ} (h : SFits w32 x) (k : SFits w32 y) (p : a ≡ ofZ w32 (toZ w32 (ofZ w32 x))) (q : b ≡ ofZ w32 (toZ w32 (ofZ w32 y))) where
+  pub sum-bits : r ≡ (a + b) % 2 ^ 32 → r ≡ low32 (x +ℤ y)
+  sum-bits e = e ∙ ap₂ (λ (a b : ℕ). (a + b) % 2 ^ 32) (given-bits h p) (given-bits k q) ∙ sym (low-add x y)
 
-pub difference-bits : {x y : ℤ} {r : ℕ} → SFits w32 x → SFits w32 y → r < 2 ^ 32 → (r + ofZ w32 y) % 2 ^ 32 ≡ ofZ w32 x → r ≡ low32 (x -ℤ y)
-difference-bits {x} {y} {r} h k l e =
-    sole-difference r (low32 x) (low32 y) l (low-lt x) (low-lt y) (rw (low-is x h, low-is y k) e)
-    ∙ sym (low-add x (negℤ y) ∙ ap (λ (b : ℕ). (low32 x + b) % 2 ^ 32) (low-neg y))
+  -- r is what b is added to for a
+  pub difference-bits : r < 2 ^ 32 → (r + b) % 2 ^ 32 ≡ a → r ≡ low32 (x -ℤ y)
+  difference-bits l e =
+      sole (low32 x) (low32 y) (low-lt x) (low-lt y) (ap (λ (b : ℕ). (r + b) % 2 ^ 32) (sym (given-bits k q)) ∙ e ∙ given-bits h p)
+      ∙ sym (low-add x (negℤ y) ∙ ap (λ (b : ℕ). (low32 x + b) % 2 ^ 32) (low-neg y))
+    where
+      sole : (a b : ℕ) → a < 2 ^ 32 → b < 2 ^ 32 → (r + b) % 2 ^ 32 ≡ a → r ≡ (a + (2 ^ 32 - b) % 2 ^ 32) % 2 ^ 32
+      sole a b h k e = omega arith
 
 -- ---- xor twice
 over : {X : Type 0} (y : ℕ) → suc (suc y) < 2 → X

@@ -18,10 +18,6 @@ pub remainder-is : (x y : ℤ) → floorMod x y ≡ x -ℤ floorDiv x y *ℤ y
 unfolding floorMod
 remainder-is x y = refl
 
-pub floor-law : (x y : ℤ) → x ≡ floorDiv x y *ℤ y +ℤ floorMod x y
-unfolding floorMod
-floor-law x y = sym (+ℤ-comm (floorDiv x y *ℤ y) (x -ℤ floorDiv x y *ℤ y) ∙ -ℤ-+ℤ-cancel x (floorDiv x y *ℤ y))
-
 -- ---- it lies from 0 up to the divisor, or down to it
 abbrev pub Between : ℤ → ℤ → Type 0
 Between (pos b) r = (pos 0 ≤ℤ r) × (r <ℤ pos b)

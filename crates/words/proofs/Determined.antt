@@ -1,8 +1,9 @@
 -- Any two outcomes that a public function's contract permits are equal: the answer, and the lent buffer afterwards.
-use mathlib.Core.Path.{_≡_, sym, _∙_}
+use mathlib.Core.Path.{_≡_}
 use Prim.Native.Nat.{ℕ}
 use lib.IntN.{ℤ}
 use denote.Ref.{now}
+use Rattle.values.proofs.Determined.{determined}
 use Rattle.words.proofs.put_bytes.Reads as put-bytes
 use Rattle.words.proofs.put_decimal.Reads as put-decimal
 use Rattle.words.proofs.put_signed.Reads as put-signed
@@ -13,9 +14,6 @@ use Rattle.words.proofs.hex_byte.Reads as hex-byte
 use Rattle.words.proofs.hex_bytes.Reads as hex-bytes
 use Rattle.words.proofs.nearest.Reads as nearest
 use Rattle.words.proofs.next_line.Reads as next-line
-
-pub determined : {A : Type 0} {f r q : A} → r ≡ f → q ≡ f → r ≡ q
-determined p k = p ∙ sym k
 
 pub put-bytes-determined : (κs a : _) (r q : ℕ) (s t : _) → put-bytes.Post κs a r s → put-bytes.Post κs a q t → (r ≡ q) × (now (s .0) ≡ now (t .0))
 put-bytes-determined κs a r q s t h k = (determined (h .0) (k .0), determined (h .1) (k .1))

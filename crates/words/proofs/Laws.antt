@@ -17,7 +17,7 @@ Digits [] = Unit {0}
 Digits (b ∷ s) = (isDigit b ≡ true) × Digits s
 
 last-is : (n : ℕ) → isDigit (lastDigit n) ≡ true
-last-is n = inside (lastDigit n) (omega arith) (omega arith)
+last-is n = inside 48 57 (lastDigit n) (omega arith) (omega arith)
 
 one-more : (s : List ℕ) (d : ℕ) → Digits s → isDigit d ≡ true → Digits (s ++ (d ∷ []))
 one-more [] d h p = (p, tt)

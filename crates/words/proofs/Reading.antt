@@ -16,19 +16,20 @@ use lib.Seq.{drop-cons}
 use borrow.Author.Tests.{le-leb, lt-leb, lt-ltb, le-ltb, eq-eqb, ne-eqb}
 use Rattle.words.specs.Words.{isDigit, digitCount, digitValue, limit, signedNext, signedValue, hexDigit, hexPair, hexByte}
 
--- ---- a byte is a digit or not
-pub low : (b : ℕ) → b < 48 → isDigit b ≡ false
-low b h = ap (λ (t : Bool). t && leb b 57) (lt-leb 48 b h)
-
 and-false : (t : Bool) → t && false ≡ false
 and-false true = refl
 and-false false = refl
 
-pub high : (b : ℕ) → 57 < b → isDigit b ≡ false
-high b h = ap (λ (t : Bool). leb 48 b && t) (lt-leb b 57 h) ∙ and-false (leb 48 b)
+-- ---- a byte lies in a range or not: of digits from 48 to 57, of letters from 97 to 102
+module _ (least most b : ℕ) where
+  pub low : b < least → leb least b && leb b most ≡ false
+  low h = ap (λ (t : Bool). t && leb b most) (lt-leb least b h)
 
-pub inside : (b : ℕ) → 48 ≤ b → b ≤ 57 → isDigit b ≡ true
-inside b h k = ap₂ _&&_ (le-leb 48 b h) (le-leb b 57 k)
+  pub high : most < b → leb least b && leb b most ≡ false
+  high h = ap (λ (t : Bool). leb least b && t) (lt-leb b most h) ∙ and-false (leb least b)
+
+  pub inside : least ≤ b → b ≤ most → leb least b && leb b most ≡ true
+  inside h k = ap₂ _&&_ (le-leb least b h) (le-leb b most k)
 
 -- the loop's state: what is read from `at` on is what is read from next on, after value
 abbrev pub Midway : List ℕ → ℕ → ℕ → ℕ → Type 0
@@ -57,7 +58,7 @@ stop-end s at value next h m =
 pub one-more : (s : List ℕ) (at value next v : ℕ) → next < length s → 48 ≤ getD s next 0 → getD s next 0 ≤ 57
     → v ≡ min (10 * value + (getD s next 0 - 48)) limit → Midway s at value next → Midway s at v (next + 1)
 one-more s at value next v h k l q m =
-    let p : isDigit (getD s next 0) ≡ true = inside (getD s next 0) k l in
+    let p : isDigit (getD s next 0) ≡ true = inside 48 57 (getD s next 0) k l in
     let e : drop next s ≡ getD s next 0 ∷ drop (suc next) s = drop-cons s next 0 h in
     let d : drop (suc next) s ≡ drop (next + 1) s = ap (λ (i : ℕ). drop i s) (sym (add-one next)) in
     let n : digitCount (drop next s) ≡ suc (digitCount (drop (next + 1) s)) =
@@ -145,17 +146,11 @@ module _ (s : List ℕ) (at b : ℕ) (eb : b ≡ getD s at 0) where
 pub hex-none : (b : ℕ) → isDigit b ≡ false → leb 97 b && leb b 102 ≡ false → 16 ≡ hexDigit b
 hex-none b p q = sym (ap₂ (λ (t u : Bool). cond t (b - 48) (cond u (b - 87) 16)) p q)
 
-pub hex-low : (b : ℕ) → b < 97 → leb 97 b && leb b 102 ≡ false
-hex-low b h = ap (λ (t : Bool). t && leb b 102) (lt-leb 97 b h)
-
-pub hex-high : (b : ℕ) → 102 < b → leb 97 b && leb b 102 ≡ false
-hex-high b h = ap (λ (t : Bool). leb 97 b && t) (lt-leb b 102 h) ∙ and-false (leb 97 b)
-
 pub hex-number : (b : ℕ) → 48 ≤ b → b ≤ 57 → b - 48 ≡ hexDigit b
-hex-number b h k = sym (ap (λ (t : Bool). cond t (b - 48) (cond (leb 97 b && leb b 102) (b - 87) 16)) (inside b h k))
+hex-number b h k = sym (ap (λ (t : Bool). cond t (b - 48) (cond (leb 97 b && leb b 102) (b - 87) 16)) (inside 48 57 b h k))
 
 pub hex-letter : (b : ℕ) → 97 ≤ b → b ≤ 102 → b - 87 ≡ hexDigit b
-hex-letter b h k = sym (ap₂ (λ (t u : Bool). cond t (b - 48) (cond u (b - 87) 16)) (high b (omega arith)) (ap₂ _&&_ (le-leb 97 b h) (le-leb b 102 k)))
+hex-letter b h k = sym (ap₂ (λ (t u : Bool). cond t (b - 48) (cond u (b - 87) 16)) (high 48 57 b (omega arith)) (inside 97 102 b h k))
 
 pub pair-none : (h l : ℕ) → 15 < h → 256 ≡ hexPair h l
 pair-none h l k = sym (ap (λ (t : Bool). cond (t && ltb l 16) (16 * h + l) 256) (le-ltb h 16 (omega arith)))

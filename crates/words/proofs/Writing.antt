@@ -1,9 +1,8 @@
 -- Bytes put into a buffer: runs of stores, the room for them, the digits of a number.
-use mathlib.Core.Path.{_≡_, refl, sym, ap, _∙_, subst}
+use mathlib.Core.Path.{_≡_, refl, sym, ap, _∙_}
 use mathlib.Core.Bool.{Bool, true, false, cond}
 use mathlib.Core.List.{List, [], _∷_, _++_}
 use Prim.Native.Nat.{ℕ, zero, suc, _+_, _-_, _/_, _≤_, _<_}
-use native.Mathlib.Nat.{add-zero}
 use native.Mathlib.Numerals.{add-one}
 use native.Mathlib.Omega.{arith}
 use native.Mathlib.Decide.{decLe}
@@ -16,7 +15,10 @@ use lib.Signed.{nonNeg, leZ}
 use lib.Dec.{T}
 use mir.Syntax.{w64}
 use mir.Val.{toZ, ofZ, Fits, SFits}
-use mir.Facts.{toZ-neg, toZ-pos}
+use Rattle.values.proofs.Bits.{clash, notZ, not-reads as complement}
+use Rattle.codes.specs.Numbers.{written}
+use Rattle.codes.proofs.Cases.{sets-append}
+use Rattle.codes.proofs.Rows.{length-written}
 use Rattle.words.specs.Words.{fits, put, after, lastDigit, decimalBy, decimal, signedDecimal}
 
 -- ---- room
@@ -44,18 +46,19 @@ after-within b w at h = go (fits b at w) refl
     go true p = leb-true (at + length w) (length b) p
     go false p = h
 
+-- and so it does of the buffer afterwards, which is as long
+pub stays : (b c w : List ℕ) (at r : ℕ) → at ≤ length b → r ≡ after b at w → length c ≡ length b → r ≤ length c
+stays b c w at r h e k = rw (k, e) (after-within b w at h)
+
+pub length-put : (b w : List ℕ) (at : ℕ) → length (put b at w) ≡ length b
+unfolding written
+length-put b w at = length-written b at w
+
 -- the same said of other bytes that are equal
 pub said : (b now w v : List ℕ) (at r : ℕ) → w ≡ v → (r ≡ after b at w) × (now ≡ put b at w) → (r ≡ after b at v) × (now ≡ put b at v)
 said b now w v at r e h = (h .0 ∙ ap (after b at) e, h .1 ∙ ap (put b at) e)
 
 -- ---- runs of stores
-shifted : (i n : ℕ) → suc i + n ≡ i + suc n
-shifted i n = omega arith
-
-pub sets-append : (l : List ℕ) (i : ℕ) (xs ys : List ℕ) → sets l i (xs ++ ys) ≡ sets (sets l i xs) (i + length xs) ys
-sets-append l i [] ys = ap (λ (k : ℕ). sets l k ys) (sym (add-zero i))
-sets-append l i (x ∷ xs) ys = sets-append (set l i x) (suc i) xs ys ∙ ap (λ (k : ℕ). sets (sets (set l i x) (suc i) xs) k ys) (shifted i (length xs))
-
 -- what was stored from the front on is what stands there
 pub front : (l ds : List ℕ) (r : ℕ) → length ds ≤ length l → r ≡ 0 + length ds → take r (sets l 0 ds) ≡ ds
 front l ds r h e = ap (λ (b : List ℕ). take r b) (sets-eq ds l 0 (omega arith)) ∙ take-at ds (drop (0 + length ds) l) r (omega arith)
@@ -111,9 +114,6 @@ stored-after l mid now at p r k n f h ep em er en =
     )
 
 -- ---- the sign: by the number, or by its complement and one
-clash : {X : Type 0} → true ≡ false → X
-clash e = absurd (subst T e tt)
-
 pub above-cast : (z : ℤ) → SFits w64 z → leZ (pos 0) z ≡ true → T (nonNeg z) × Fits w64 (natAbs z)
 above-cast (pos n) h p = (tt, omega arith)
 above-cast (negsuc n) h p = clash (sym p)
@@ -122,17 +122,8 @@ pub above-is : (z : ℤ) → leZ (pos 0) z ≡ true → decimal (natAbs z) ≡ s
 above-is (pos n) p = refl
 above-is (negsuc n) p = clash (sym p)
 
-abbrev pub notZ : ℤ → ℤ
-notZ (pos n) = negsuc n
-notZ (negsuc n) = pos n
-
 pub not-reads : (z : ℤ) → SFits w64 z → toZ w64 (18446744073709551615 - ofZ w64 z) ≡ notZ z
-not-reads (pos n) h =
-    let e : 18446744073709551615 - n ≡ 18446744073709551616 - suc n = omega arith in
-    ap (toZ w64) e ∙ toZ-neg w64 n (h .sfits)
-not-reads (negsuc n) h =
-    let e : 18446744073709551615 - (18446744073709551616 - suc n) ≡ n = omega arith in
-    ap (toZ w64) e ∙ toZ-pos w64 (h .sfits)
+not-reads = complement w64
 
 never : {X : Type 0} (n : ℕ) → leZ (pos 0) (pos n) ≡ false → X
 never n p = clash (sym (le-leb 0 n (omega arith)) ∙ p)

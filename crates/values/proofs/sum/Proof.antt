@@ -1,36 +1,20 @@
 -- `values::sum` meets its contract: the kit's wrapping sum of the bits is that of the numbers, modulo 2^32. Assumes nothing.
-use mathlib.Core.Path.{_≡_, ap, ap₂, _∙_}
-use Prim.Native.Nat.{ℕ, _+_, _%_, _^_}
+use mathlib.Core.Path.{ap, _∙_}
 use mir.Syntax.{w32}
-use mir.Val.{toZ, ofZ}
-use mir.Facts.{toZ-ofZ}
+use mir.Val.{toZ}
 use Rattle.values.specs.Values.{wrap}
 use Rattle.values.proofs.Bits.{back32, sum-bits}
 use borrow.Author.Needs.{needs}
 use Rattle.values.proofs.sum.Statement.{statement}
 use Rattle.values.proofs.sum.Tie as tie
 
-to-bits-requires : tie.Need-to-bits-requires
-to-bits-requires c κs = search needs
-
-to-bits-requires-2 : tie.Need-to-bits-requires-2
-to-bits-requires-2 c κs = search needs
-
-wrapping-add-u32-requires : tie.Need-wrapping-add-u32-requires
-wrapping-add-u32-requires c κs = search needs
-
-from-bits-requires : tie.Need-from-bits-requires
-from-bits-requires c κs = search needs
-
 returns : tie.Need-returns
 unfolding wrap
 returns c =
     let k = c .before in
     let s = k .before .before .before in
-    let x-bits : k .before .before .to-bits .result ≡ ofZ w32 (s .args .x) = k .before .before .to-bits .ensures ∙ ap (ofZ w32) (toZ-ofZ (s .fits .x)) in
-    let y-bits : k .before .to-bits2 .result ≡ ofZ w32 (s .args .y) = k .before .to-bits2 .ensures ∙ ap (ofZ w32) (toZ-ofZ (s .fits .y)) in
     back32 (c .from-bits .ok) (c .from-bits .ensures)
-    ∙ ap (toZ w32) (k .wrapping-add-u32 .ensures ∙ ap₂ (λ (a b : ℕ). (a + b) % 2 ^ 32) x-bits y-bits ∙ sum-bits (s .fits .x) (s .fits .y))
+    ∙ ap (toZ w32) (sum-bits (s .fits .x) (s .fits .y) (k .before .before .to-bits .ensures) (k .before .to-bits2 .ensures) (k .wrapping-add-u32 .ensures))
 
 pub sum-spec : {M : Type 1} → statement M
-sum-spec = tie.close (tie.spec to-bits-requires to-bits-requires-2 wrapping-add-u32-requires from-bits-requires returns)
+sum-spec = tie.close (tie.spec (λ c κs. search needs) (λ c κs. search needs) (λ c κs. search needs) (λ c κs. search needs) returns)

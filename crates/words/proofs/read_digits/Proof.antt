@@ -21,13 +21,13 @@ returns : tie.Need-returns Inv-loop μ-loop
 returns c =
     let l = c .before .before .before .loop in
     let s = now (c .before .before .before .before .before .args .s) in
-    stop-here s _ (l .value) (l .next) (omega arith) (low (getD s (l .next) 0) (omega arith)) (l .inv)
+    stop-here s _ (l .value) (l .next) (omega arith) (low 48 57 (getD s (l .next) 0) (omega arith)) (l .inv)
 
 returns-2 : tie.Need-returns-2 Inv-loop μ-loop
 returns-2 c =
     let l = c .before .before .before .before .loop in
     let s = now (c .before .before .before .before .before .before .args .s) in
-    stop-here s _ (l .value) (l .next) (omega arith) (high (getD s (l .next) 0) (omega arith)) (l .inv)
+    stop-here s _ (l .value) (l .next) (omega arith) (high 48 57 (getD s (l .next) 0) (omega arith)) (l .inv)
 
 loop-again : tie.Need-loop-again Inv-loop μ-loop
 loop-again c =
