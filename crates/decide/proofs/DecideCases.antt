@@ -19,7 +19,7 @@ use Rattle.place.specs.Methods.{topAt}
 use Rattle.moves.specs.Stores.{Answer, ok, no, number, reasonOf, Store}
 use Rattle.decide.specs.Sets.{faultOf, Leaves, setEntry}
 use Rattle.decide.specs.Decide.{lookIn, moreOf, otherOf, alongOf, gateOf, truthOf}
-use Rattle.decide.specs.Ways.{wayTo, labelIn, sideIn, sightBy, sight, byKind, byLabel, bare, actIn, yesIn, noIn, firstIn, secondIn, exprIn, headIn, moving, refusedIn, keptIn, pushedIn, poppedIn, changedIn, chosenIn, closedIn, againIn, openedIn, repeatedIn, enteredIn, backIn, returnedIn, testedIn, assignedIn, afterSet, setCell, Rules, ruleIn}
+use Rattle.decide.specs.Ways.{wayTo, labelIn, sideIn, sight, byKind, byLabel, bare, actIn, yesIn, noIn, firstIn, secondIn, exprIn, headIn, moving, refusedIn, keptIn, pushedIn, poppedIn, changedIn, chosenIn, closedIn, againIn, openedIn, repeatedIn, enteredIn, backIn, returnedIn, testedIn, assignedIn, afterSet, setCell, Rules, ruleIn}
 use Rattle.decide.specs.declared.Spot.{Spot}
 use Rattle.decide.specs.declared.Move.{Move}
 use Rattle.decide.proofs.SetCases.{is-stop, is-value}

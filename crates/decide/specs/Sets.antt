@@ -1,5 +1,5 @@
 -- A SET read from the bytes, for any bytes and any arrays. Nothing here has to be believed: machine/proofs/Sets joins it to `assigned`.
-use Prim.Native.Nat.{ℕ, _+_, _<_, _≤_}
+use Prim.Native.Nat.{ℕ, _+_, _<_}
 use mathlib.Core.List.{List}
 use mathlib.Core.Bool.{cond}
 use mathlib.Core.Path.{_≡_}

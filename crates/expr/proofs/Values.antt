@@ -223,7 +223,7 @@ module _ (A : List ℕ) (C : List ℤ) (s : List ℕ) (at : ℕ) where
   pub passed-on : (r : ℤ) (after : ℕ) → SFits w64 r → Goes r after → Goes (again64 r) after
   passed-on r after f o = way-on _ _ r after f o
 
-pub ruleset compounds = (value-read, left-stop, right-stop, value-bin)
+pub ruleset compounds = (value-out, value-read, left-stop, right-stop, value-bin)
 
 pub ruleset operands = (passed-on, value-out, value-con, value-var)
 

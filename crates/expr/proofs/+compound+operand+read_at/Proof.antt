@@ -56,6 +56,7 @@ pub +compound+operand+read-at-spec : {M : Type 1} → statement M
 +compound+operand+read-at-spec = close μ-compound μ-operand μ-read-at (λ t. compound-lts.spec (byte-reads.Asked, byte-reads.Learnt, read-at-below t, read-at.Post, operand-below t, operand.Post, apply-reads.Asked, apply-reads.Learnt)
     (compound-at t)
     compound.Post
+    (λ c. search compounds)
     (λ c κs. search needs)
     (λ c κs. search needs)
     (λ c. search compounds)
@@ -65,7 +66,7 @@ pub +compound+operand+read-at-spec : {M : Type 1} → statement M
     (λ c. search needs)
     (λ c κs. search needs)
     (λ c. search compounds)
-    (λ c κs. let f : SFits w64 (c .before .before .operand .result) = search needs in (omega (arith, mid-after _ _ _ _ _ (c .before .before .operand .ensures) f (c .before .if2 .left)), tt))
+    (λ c κs. let f : SFits w64 (c .before .before .operand .result) = search needs in (omega (arith, mid-after _ _ _ _ _ (c .before .before .operand .ensures) f (c .before .if3 .left)), tt))
     (λ c. search compounds)
     (λ c. search casts)
     (λ c. search casts)
