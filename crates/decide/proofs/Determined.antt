@@ -4,8 +4,6 @@
 use mathlib.Core.Path.{_≡_, sym, _∙_}
 use contract.Lifetimes.{Lfts}
 use Rattle.decide.proofs.MapCases.{maps-one}
-use Rattle.decide.proofs.look.Reads as look
-use Rattle.decide.proofs.offset.Reads as offset
 use Rattle.decide.proofs.along.Reads as along
 use Rattle.decide.proofs.gate.Reads as gate
 use Rattle.decide.proofs.way_to.Reads as way-to
@@ -15,12 +13,6 @@ use Rattle.decide.proofs.map.map.Reads as map
 use Rattle.decide.proofs.decide.Reads as decide
 
 module _ (κs : Lfts 1) where
-  pub look-determined : (a : _) (r r′ : _) (s s′ : _) → look.Post κs a r s → look.Post κs a r′ s′ → r ≡ r′
-  look-determined a r r′ s s′ p q = p ∙ sym q
-
-  pub offset-determined : (a : _) (r r′ : _) (s s′ : _) → offset.Post κs a r s → offset.Post κs a r′ s′ → r ≡ r′
-  offset-determined a r r′ s s′ p q = p ∙ sym q
-
   pub along-determined : (a : _) (r r′ : _) (s s′ : _) → along.Post κs a r s → along.Post κs a r′ s′ → r ≡ r′
   along-determined a r r′ s s′ p q = p ∙ sym q
 

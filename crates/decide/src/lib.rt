@@ -37,7 +37,7 @@ pub struct Move {
 }
 
 // An entry of the table, 0 past its end.
-pub fn look(table: &[u16; 9344], i: usize) -> u16
+fn look(table: &[u16; 9344], i: usize) -> u16
     ensures { λ r. ⌜ r ≡ lookIn (now (table .entry)) i ⌝ }
 {
     if i < 9344 { table[i] } else { 0 }
@@ -59,7 +59,7 @@ fn part(table: &[u16; 9344], section: usize, x: u16) -> u16
 }
 
 // Where record x stands in the file.
-pub fn offset(table: &[u16; 9344], x: u16) -> u16
+fn offset(table: &[u16; 9344], x: u16) -> u16
     ensures { λ r. ⌜ r ≡ lookIn (now (table .entry)) x ⌝ }
 {
     look(table, wide(x))

@@ -27,7 +27,7 @@ use Rattle.expr.proofs.Layer.{and-true}
 use Rattle.table.proofs.Facts.{facts}
 use Rattle.table.proofs.Tabled.{Tabled}
 use Rattle.decide.specs.Decide.{Seen, Moved, lookIn, moreOf, otherOf, alongOf, gateOf, resumedOf, behindOf, refusedOf, enteredTo, enteredOf, returnedOf, moving, ruled, ruleOf}
-use Rattle.machine.proofs.Room.{encl-room, stack-room, room}
+use Rattle.fits.proofs.Few.{encl-room, stack-room, room}
 use Rattle.machine.proofs.Labels.{inside}
 use Rattle.machine.proofs.Landing.{topLabel, spotAt, Fate, Acts, lands, acts-push, acts-pop}
 use Rattle.machine.proofs.Sets.{Agrees}

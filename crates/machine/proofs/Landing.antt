@@ -27,7 +27,7 @@ use Rattle.table.proofs.Tabled.{Tabled}
 use Rattle.decide.specs.Decide.{Seen, Moved, alongOf, moreOf, keptOf, pushedOf, poppedOf, changedOf, againOf, Ruled, ruled}
 use Rattle.machine.specs.Walk.{putIn}
 use Rattle.machine.proofs.Labels.{along-is}
-use Rattle.machine.proofs.Room.{room}
+use Rattle.fits.proofs.Few.{room}
 
 -- ---- one list of slots
 put-none : (s : List ℕ) (v : ℕ) → putIn s 1104 v ≡ s

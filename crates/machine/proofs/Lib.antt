@@ -1,7 +1,6 @@
 -- The laws of `machine`, in the order in which they stand on each other.
 pub mod WalkCases
 pub mod CopyCases
-pub mod Room
 pub mod Sets
 pub mod Labels
 pub mod Landing

@@ -38,7 +38,7 @@ use Rattle.decide.specs.Map.{Maps}
 use Rattle.decide.proofs.Rules.{rule-call, rule-uncall, rule-return}
 use Rattle.decide.proofs.Mapped.{mapped}
 use Rattle.machine.specs.Walk.{spotOf, afterOf, standOf, heldBy, sightIn, movedTo, Gone, gone, goOf}
-use Rattle.machine.proofs.Room.{room}
+use Rattle.fits.proofs.Few.{room}
 use Rattle.machine.proofs.Labels.{small, inside, offset-is}
 use Rattle.machine.proofs.Landing.{topKind, topLabel, spotAt, Fate}
 use Rattle.machine.proofs.There.{tip-there, label-there}

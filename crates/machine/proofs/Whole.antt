@@ -38,7 +38,7 @@ use Rattle.machine.specs.declared.walk.Went.{Went}
 use Rattle.machine.specs.Whole.{toldBy, staying, givenBack, Copied, CheckedRun}
 use Rattle.machine.specs.Whole as whole
 use Rattle.machine.specs.Answers.{Gives, Before, program, size, place, Ready, StepSays, refused, stopped, arrived, RunSays, ran}
-use Rattle.machine.proofs.Room.{room}
+use Rattle.fits.proofs.Few.{room}
 use Rattle.machine.proofs.Giving.{gives-refused, by-gives}
 use Rattle.machine.proofs.Copied.{walked-copied}
 
