@@ -27,6 +27,7 @@ use Rattle.expr.proofs.Layer.{and-true}
 use Rattle.table.proofs.Facts.{facts}
 use Rattle.table.proofs.Tabled.{Tabled}
 use Rattle.decide.specs.Decide.{Seen, Moved, lookIn, moreOf, otherOf, alongOf, gateOf, resumedOf, behindOf, refusedOf, enteredTo, enteredOf, returnedOf, moving, ruled, ruleOf}
+use Rattle.decide.proofs.Rules.{behind-call, behind-uncall}
 use Rattle.fits.proofs.Few.{encl-room, stack-room, room}
 use Rattle.machine.proofs.Labels.{inside}
 use Rattle.machine.proofs.Landing.{topLabel, spotAt, Fate, Acts, lands, acts-push, acts-pop}
@@ -152,11 +153,11 @@ module _ {f : List ℕ} {t : Tree} (A : Accepts f t) {tab : List ℕ} (T : Table
         let h = inside A q′ c (omega arith) (omega arith) in
         let s : SimpleOk P c = (rw ac at (w A T G .here c)) .1 in
         let rs : resumedOf tab c (dirNumber d) ≡ dirNumber d = rw (kind-at A T G c h (callL q) ac) in
-        let bh : behindOf tab c (dirNumber d) ≡ c = rw (kind-at A T G c h (callL q) ac) in
+        let bh = behind-call tab c (dirNumber d) (kind-at A T G c h (callL q) ac) in
         rw ac (back q′ c cs′ d (callL q) ac s lo hi o n (rw ac (side-call q c (opp d))) rs bh)
     return-fate q cs (by-uncall {q′ = q′} {c = c} {cs = cs′} ac lo hi o) n =
         let h = inside A q′ c (omega arith) (omega arith) in
         let s : SimpleOk P c = (rw ac at (w A T G .here c)) .1 in
         let rs : resumedOf tab c (dirNumber d) ≡ dirNumber (opp d) = rw (kind-at A T G c h (uncallL q) ac) (other-is d) in
-        let bh : behindOf tab c (dirNumber d) ≡ c = rw (kind-at A T G c h (uncallL q) ac) in
+        let bh = behind-uncall tab c (dirNumber d) (kind-at A T G c h (uncallL q) ac) in
         rw ac (back q′ c cs′ (opp d) (uncallL q) ac s lo hi o n (rw ac (side-uncall q c (opp (opp d)))) rs bh)

@@ -10,8 +10,6 @@ use Rattle.place.specs.Slots.{dirNumber}
 use Rattle.records.specs.Records.{Record, skip, kind, body, encodeRecord, bytesOf}
 use Rattle.order.specs.Trees.{Tree, recordsOf}
 use Rattle.program.specs.Says.{Accepts}
-use Rattle.records.specs.Faults.{word}
-use Rattle.records.specs.Reading.{stop}
 use Rattle.records.specs.Walk.{offsets}
 use Rattle.records.proofs.Offsets.{record-at, word-is, short-is, size-of}
 use Rattle.records.proofs.Bytes.{front-rest}

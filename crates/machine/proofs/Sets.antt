@@ -10,7 +10,7 @@ use lib.IntN.{ℤ, pos, negsuc}
 use native.Mathlib.Omega.{arith}
 use borrow.Author.Tests.{ne-eqb, eqb-true}
 use Rattle.expr.specs.Tree.{Expr, eval}
-use Rattle.expr.specs.Bytes.{Got, parse, within}
+use Rattle.expr.specs.Bytes.{parse, within}
 use Rattle.expr.proofs.Layer.{within-ok, and-true, grows}
 use Rattle.expr.specs.Answers.{arraysOf, worthAt}
 use Rattle.expr.proofs.Agree.{eval-agree}

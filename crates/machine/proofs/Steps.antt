@@ -32,7 +32,7 @@ use Rattle.moves.proofs.Sees.{sees}
 use Rattle.moves.proofs.Match.{placed-fits, fits-placed}
 use Rattle.table.proofs.Tabled.{Tabled}
 use Rattle.decide.specs.Decide.{Seen, lookIn, procAt, enteredOf, returnedOf, Ruled, ruleOf}
-use Rattle.decide.specs.Ways.{wayTo, labelIn, sideIn, Sight, sightOf, packed, ruleIn}
+use Rattle.decide.specs.Ways.{wayTo, labelIn, sideIn, Sight, packed, ruleIn}
 use Rattle.decide.specs.Ways as ways
 use Rattle.decide.specs.Map.{Maps}
 use Rattle.decide.proofs.Rules.{rule-call, rule-uncall, rule-return}

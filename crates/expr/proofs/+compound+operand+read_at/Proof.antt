@@ -1,3 +1,5 @@
+-- The proof of the cycle of calls {compound, operand, read_at}: where n bytes are left before 32,768, the measures are 3n for `compound`,
+-- 3n + 1 for `operand` and 3n - 1 for `read_at`. The answers are the cases of `Values`. Assumes nothing.
 use borrow.Author.Needs.{needs}
 use native.Mathlib.Omega.{arith}
 use mir.Syntax.{w64}
