@@ -2,6 +2,5 @@
 pub mod SetCases
 pub mod DecideCases
 pub mod Rules
-pub mod MapCases
 pub mod Mapped
 pub mod Determined

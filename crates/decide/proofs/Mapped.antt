@@ -11,12 +11,13 @@ use Rattle.expr.specs.Bytes.{within}
 use Rattle.expr.specs.Answers.{worthAt}
 use Rattle.records.specs.Faults.{word}
 use Rattle.moves.specs.Stores.{Answer, ok, no, number, Store}
-use Rattle.decide.specs.Sets.{operatorAt, setTo, setEntry, setAt}
-use Rattle.decide.specs.Decide.{Seen, Moved, lookIn, moreOf, moving, alongOf, otherOf, gateOf, procAt, resumedOf, truthOf, backOf, refusedOf, pushedOf, poppedOf, changedOf, chosenOf, closedOf, openedOf, repeatedOf, enteredTo, enteredOf, returnedOf, testedOf, assignedOf, ruled as tabled, afterSet as afterSetOf, ruleOf}
-use Rattle.decide.specs.Ways.{wayTo, Sight, actIn, yesIn, noIn, firstIn, secondIn, exprIn, headIn, refusedIn, chosenIn, closedIn, openedIn, repeatedIn, enteredIn, returnedIn, testedIn, ruled, afterSet, setCell, ruleIn, sightOf, packedMove, packed}
+use Rattle.ways.specs.Looks.{operatorAt, lookIn, alongOf, otherOf, gateOf, procAt, resumedOf, wayTo}
+use Rattle.decide.specs.Sets.{setTo, setEntry, setAt}
+use Rattle.decide.specs.Decide.{Seen, Moved, moreOf, moving, truthOf, backOf, refusedOf, pushedOf, poppedOf, changedOf, chosenOf, closedOf, openedOf, repeatedOf, enteredTo, enteredOf, returnedOf, testedOf, assignedOf, ruled as tabled, afterSet as afterSetOf, ruleOf}
+use Rattle.decide.specs.Ways.{Sight, actIn, yesIn, noIn, firstIn, secondIn, exprIn, headIn, refusedIn, chosenIn, closedIn, openedIn, repeatedIn, enteredIn, returnedIn, testedIn, ruled, afterSet, setCell, ruleIn, sightOf, packedMove, packed}
 use Rattle.decide.specs.declared.Move.{Move}
-use Rattle.decide.specs.Map.{actAt, onwardAt, gateAt, intoAt, firstAt, secondAt, exprAt, entryAt, Maps}
-use Rattle.decide.proofs.MapCases.{entry-0, entry-2, entry-4, entry-6, entry-8, entry-10, entry-12}
+use Rattle.ways.specs.Map.{actAt, onwardAt, gateAt, intoAt, firstAt, secondAt, exprAt, entryAt, Maps}
+use Rattle.ways.proofs.MapCases.{entry-0, entry-2, entry-4, entry-6, entry-8, entry-10, entry-12}
 
 way-is : (b d : ℕ) → b < 1024 → d < 2 → wayTo b d ≡ b + 1024 * d
 unfolding wayTo

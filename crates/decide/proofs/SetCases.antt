@@ -18,7 +18,7 @@ use Rattle.expr.specs.Tree.{Fault, byZero, badIndex as outside, Worth, value, s
 use Rattle.expr.specs.Bytes.{Got, within}
 use Rattle.expr.specs.Answers.{packedWorth, InCell, arraysOf, worthAt, WorthSays, movedTo}
 use Rattle.moves.specs.Stores.{Answer, ok, no, Reason, number, bind, Store, answered, reasonOf, applied}
-use Rattle.decide.specs.Sets.{operatorAt, worked, faultOf, entryBy, EntrySays, Leaves, setTo, setEntry}
+use Rattle.decide.specs.Sets.{worked, faultOf, entryBy, EntrySays, Leaves, setTo, setEntry}
 use Rattle.decide.specs.Ways.{setCell}
 
 -- a signed number that was put in a variable, a field or an argument is read back from its bits
@@ -28,7 +28,7 @@ again z = toZ w32 (ofZ w32 z)
 abbrev again64 : ℤ → ℤ
 again64 z = toZ w64 (ofZ w64 z)
 
--- ---- `fault`, `operator`, `apply`
+-- ---- `fault`, `apply`
 pub fault-yes : (n : ℕ) → n ≡ 4294967328 → 32 ≡ faultOf n
 fault-yes n e = rw (eq-eqb n 4294967328 e)
 
@@ -36,23 +36,6 @@ pub fault-no : (n : ℕ) → (n ≡ 4294967328 → ⊥) → 33 ≡ faultOf n
 fault-no n e = rw (ne-eqb n 4294967328 e)
 
 pub ruleset faults = (fault-yes, fault-no)
-
-module _ (o d : ℕ) where
-  pub op-down : d ≡ 0 → o ≡ operatorAt o d
-  op-down e = rw (eq-eqb d 0 e)
-
-  module _ (h : d ≡ 0 → ⊥) where
-    pub op-zero : o ≡ 0 → 1 ≡ operatorAt o d
-    op-zero e = rw (ne-eqb d 0 h, eq-eqb o 0 e)
-
-    module _ (z : o ≡ 0 → ⊥) where
-      pub op-one : o ≡ 1 → 0 ≡ operatorAt o d
-      op-one e = rw (ne-eqb d 0 h, ne-eqb o 0 z, eq-eqb o 1 e)
-
-      pub op-other : (o ≡ 1 → ⊥) → o ≡ operatorAt o d
-      op-other e = rw (ne-eqb d 0 h, ne-eqb o 0 z, ne-eqb o 1 e)
-
-pub ruleset operators = (op-down, op-zero, op-one, op-other)
 
 module _ (o : ℕ) (x v r : ℤ) (fx : SFits w32 x) (fv : SFits w32 v) (fr : SFits w32 r) where
   pub apply-sum : o ≡ 0 → r ≡ wrap (again x +ℤ again v) → again r ≡ applied o x v

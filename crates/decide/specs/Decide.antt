@@ -3,15 +3,14 @@
 use Prim.Native.Nat.{ℕ, _+_, _-_}
 use mathlib.Core.List.{List}
 use mathlib.Core.Path.{_≡_}
-use mathlib.Core.Bool.{Bool, false, cond, Bool·beq as same}
-use lib.ListN.{getD}
+use mathlib.Core.Bool.{Bool, false, cond}
 use lib.Dec.{ltb, leb, eqb}
 use Rattle.values.specs.Values.{isTrue}
 use Rattle.expr.specs.Tree.{Worth, value, stop}
 use Rattle.expr.specs.Answers.{worthAt, faultNumber}
 use Rattle.expr.specs.Bytes.{within}
-use Rattle.records.specs.Faults.{word}
 use Rattle.moves.specs.Stores.{Answer, ok, no, number, Store}
+use Rattle.ways.specs.Looks.{actOf, alongOf, gateOf, leftAt, lookIn, otherOf, procAt, resumedOf}
 use Rattle.decide.specs.Sets.{setAt}
 
 -- what a step is decided from: where it stands, and the innermost frame (kind 9: none)
@@ -35,22 +34,11 @@ pub record Moved : Type 0 where
   pub kind : ℕ
   pub label : ℕ
 
--- an entry of the table, 0 past its end
-unfoldable pub lookIn : List ℕ → ℕ → ℕ
-lookIn tab i = cond (ltb i 9344) (getD tab i 0) 0
-
 abbrev pub moreOf : ℕ → ℕ
 moreOf n = cond (ltb n 1104) (n + 1) n
 
 abbrev pub fewerOf : ℕ → ℕ
 fewerOf n = n - 1
-
-abbrev pub otherOf : ℕ → ℕ
-otherOf d = cond (eqb d 0) 1 0
-
--- the label one comes to when record y is left in a direction
-unfoldable pub alongOf : List ℕ → ℕ → ℕ → ℕ
-alongOf tab d y = cond (eqb d 0) (lookIn tab (5120 + y)) (lookIn tab (6144 + y))
 
 -- 0 false, 1 true, else the number of what stops it
 abbrev pub truthOf : Worth → ℕ
@@ -110,9 +98,6 @@ openedOf s v y tab =
 unfoldable pub repeatedOf : Seen → ℕ → ℕ → List ℕ → Moved
 repeatedOf s v y tab = cond (eqb v 0) (changedOf s (alongOf tab (s .direction) y) 3) (poppedOf s (alongOf tab (s .direction) (s .b)))
 
-abbrev pub gateOf : List ℕ → ℕ → ℕ → ℕ
-gateOf tab q d = cond (eqb d 0) (lookIn tab (9216 + q)) (lookIn tab (9280 + q))
-
 -- at the edge (a, b)
 unfoldable pub enteredTo : Seen → ℕ → ℕ → ℕ → Moved
 enteredTo s a b d = cond (leb 64 (s .calls)) (refusedOf s 34) (moving 0 d a b (s .calls + 1) (moreOf (s .count)) (s .count) 4 (s .b))
@@ -120,39 +105,6 @@ enteredTo s a b d = cond (leb 64 (s .calls)) (refusedOf s 34) (moving 0 d a b (s
 -- by the table
 unfoldable pub enteredOf : Seen → ℕ → ℕ → List ℕ → Moved
 enteredOf s q d tab = enteredTo s (gateOf tab q d) (alongOf tab d (gateOf tab q d)) d
-
--- the procedure that a call of label x would name
-abbrev pub procAt : List ℕ → List ℕ → ℕ → ℕ
-procAt f tab x = word f (lookIn tab x + 4)
-
--- "the opposite direction from an UNCALL"
-abbrev pub resumedOf : List ℕ → ℕ → ℕ → ℕ
-resumedOf tab l d = cond (eqb (lookIn tab (1024 + l)) 12) (otherOf d) d
-
--- what a record does: it returns (3), assigns (4), calls (11), is skipped (13), chooses (5), closes (7), opens (8) or tests (10)
-abbrev pub testOf : ℕ → ℕ → ℕ
-testOf k d =
-    cond (eqb k 5) (cond (eqb d 0) 5 7)
-    (cond (eqb k 7) (cond (eqb d 0) 7 5)
-    (cond (eqb k 8) (cond (eqb d 0) 8 10)
-    (cond (eqb d 0) 10 8)))
-
-abbrev pub actOf : ℕ → ℕ → ℕ
-actOf k d =
-    cond (eqb k 4) 4
-    (cond (eqb k 13) 13
-    (cond (eqb k 11) 11
-    (cond (eqb k 12) 11
-    (cond (leb k 3) 3
-    (testOf k d)))))
-
--- the record that is left behind record b, where its test does not hold, or does
-abbrev pub leftAt : List ℕ → ℕ → ℕ → ℕ → Bool → ℕ
-leftAt tab a b d fails =
-    cond (eqb a 5) (cond (same fails (eqb d 0)) (lookIn tab (3072 + b)) b)
-    (cond (eqb a 8) (cond (eqb d 0) b (lookIn tab (3072 + b)))
-    (cond (eqb a 10) (cond fails (cond (eqb d 0) (lookIn tab (3072 + b)) (lookIn tab (4096 + b))) b)
-    b))
 
 -- behind a record that one comes back to: a call itself
 abbrev pub behindOf : List ℕ → ℕ → ℕ → ℕ

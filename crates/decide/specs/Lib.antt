@@ -2,4 +2,3 @@
 pub mod Sets
 pub mod Decide
 pub mod Ways
-pub mod Map

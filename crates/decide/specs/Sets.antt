@@ -11,9 +11,7 @@ use Rattle.expr.specs.Answers.{arraysOf, worthAt}
 use Rattle.expr.specs.Bytes.{within}
 use Rattle.records.specs.Faults.{word}
 use Rattle.moves.specs.Stores.{Answer, ok, no, number, badIndex, bind, Store, answered, applied}
-
-abbrev pub operatorAt : ℕ → ℕ → ℕ
-operatorAt o d = cond (eqb d 0) o (cond (eqb o 0) 1 (cond (eqb o 1) 0 o))
+use Rattle.ways.specs.Looks.{operatorAt}
 
 abbrev pub worked : Store → ℕ → ℕ → ℤ → Store
 worked σ c o v = put σ c (applied o (getD σ c (pos 0)) v)

@@ -1,6 +1,6 @@
 -- What a step decides by the map of a run, for any map, as the code does. Nothing here has to be believed: proofs/Mapped joins
 -- it to the decision by the table. A way is a label and a direction in one number: the label, and 1,024 more upwards.
-use Prim.Native.Nat.{ℕ, _+_, _-_, _*_, _/_, _%_}
+use Prim.Native.Nat.{ℕ, _+_, _-_, _*_, _/_}
 use mathlib.Core.List.{List}
 use mathlib.Core.Path.{_≡_}
 use mathlib.Core.Bool.{Bool, false, cond, Bool·beq as same}
@@ -10,21 +10,11 @@ use Rattle.expr.specs.Answers.{worthAt}
 use Rattle.expr.specs.Bytes.{within}
 use Rattle.place.specs.Methods.{topAt}
 use Rattle.moves.specs.Stores.{Answer, ok, no, number, Store}
+use Rattle.ways.specs.Looks.{labelIn, wayTo}
 use Rattle.decide.specs.Sets.{setTo, setEntry}
 use Rattle.decide.specs.Decide.{Seen, Moved, Ruled as Tabled, moreOf, fewerOf, truthOf}
 use Rattle.decide.specs.declared.Spot.{Spot}
 use Rattle.decide.specs.declared.Move.{Move}
-
--- the way of a label in a direction
-unfoldable pub wayTo : ℕ → ℕ → ℕ
-wayTo b d = cond (eqb d 0) b (cond (ltb b 1024) (b + 1024) b)
-
--- its label and direction
-abbrev pub labelIn : ℕ → ℕ
-labelIn w = w % 1024
-
-abbrev pub sideIn : ℕ → ℕ
-sideIn w = cond (ltb w 1024) 0 1
 
 -- what a step is decided from: where it stands, and the innermost frame (kind 9: none)
 pub record Sight : Type 0 where

@@ -1,19 +1,19 @@
 // What a step does, decided from the record, the innermost frame and the store; never from the whole place.
 // Every public function is total. File and store are arrays of fixed size: each is one pointer, and no length goes with it.
-// A way is a label and a direction in one number: the label, and 1,024 more upwards. By it a run looks up all that it needs.
+// A way is a label and a direction in one number (the crate `ways`). By it a run looks up all that it needs.
 use crate::set::fault;
 use crate::set::set_cell;
 use crate::set::set_entry;
 use place::top_of;
+use ways::label_of;
 ghost use mathlib.Core.Path.{_≡_};
 ghost use Prim.Native.Nat.{_+_, _<_, _≤_};
 ghost use lib.ListN.{getD};
 ghost use Rattle.expr.specs.Answers.{worthAt};
 ghost use Rattle.expr.specs.Bytes.{within};
-ghost use Rattle.decide.specs.Decide.{lookIn, moreOf, fewerOf, otherOf, alongOf, gateOf, truthOf};
-ghost use Rattle.decide.specs.Ways.{wayTo, labelIn, sideIn, bare, byKind, byLabel, sight, yesIn, noIn, refusedIn, keptIn, pushedIn, poppedIn, changedIn, chosenIn, closedIn, againIn, openedIn, repeatedIn, enteredIn, backIn, returnedIn, testedIn, assignedIn, Rules, ruleIn};
+ghost use Rattle.decide.specs.Decide.{moreOf, fewerOf, truthOf};
+ghost use Rattle.decide.specs.Ways.{bare, byKind, byLabel, sight, yesIn, noIn, refusedIn, keptIn, pushedIn, poppedIn, changedIn, chosenIn, closedIn, againIn, openedIn, repeatedIn, enteredIn, backIn, returnedIn, testedIn, assignedIn, Rules, ruleIn};
 
-pub mod map;
 mod set;
 
 // Where a step stands: the way of the record met, how many frames are calls, how many there are.
@@ -36,33 +36,11 @@ pub struct Move {
     pub label: u16,
 }
 
-// An entry of the table, 0 past its end.
-fn look(table: &[u16; 9344], i: usize) -> u16
-    ensures { λ r. ⌜ r ≡ lookIn (now (table .entry)) i ⌝ }
-{
-    if i < 9344 { table[i] } else { 0 }
-}
-
 // A u16 as a number, with the bound that sums of it need.
 fn wide(x: u16) -> usize
     ensures { λ r. ⌜ (r ≡ x) × (r < 65536) ⌝ }
 {
     x as usize
-}
-
-// The entry of label x in a section of the table.
-fn part(table: &[u16; 9344], section: usize, x: u16) -> u16
-    requires { ⌜ section < 9344 ⌝ }
-    ensures { λ r. ⌜ r ≡ lookIn (now (table .entry)) (section + x) ⌝ }
-{
-    look(table, section + wide(x))
-}
-
-// Where record x stands in the file.
-fn offset(table: &[u16; 9344], x: u16) -> u16
-    ensures { λ r. ⌜ r ≡ lookIn (now (table .entry)) x ⌝ }
-{
-    look(table, wide(x))
 }
 
 fn more(n: usize) -> usize
@@ -75,60 +53,6 @@ fn fewer(n: usize) -> usize
     ensures { λ r. ⌜ r ≡ fewerOf n ⌝ }
 {
     if n == 0 { 0 } else { n - 1 }
-}
-
-fn other(direction: u8) -> u8
-    ensures { λ r. ⌜ r ≡ otherOf direction ⌝ }
-{
-    if direction == 0 { 1 } else { 0 }
-}
-
-// The label one comes to when record y is left in a direction.
-pub fn along(table: &[u16; 9344], direction: u8, y: u16) -> u16
-    ensures { λ r. ⌜ r ≡ alongOf (now (table .entry)) direction y ⌝ }
-{
-    if direction == 0 {
-        return part(table, 5120, y);
-    }
-    part(table, 6144, y)
-}
-
-// The record by which procedure q is entered in a direction.
-pub fn gate(table: &[u16; 9344], q: usize, direction: u8) -> u16
-    ensures { λ r. ⌜ r ≡ gateOf (now (table .entry)) q direction ⌝ }
-{
-    // the table ends here, and the sums below fit
-    if 128 <= q {
-        return 0;
-    }
-    if direction == 0 {
-        return look(table, 9216 + q);
-    }
-    look(table, 9280 + q)
-}
-
-// The way of a label in a direction.
-pub fn way_to(b: u16, direction: u8) -> u16
-    ensures { λ r. ⌜ r ≡ wayTo b direction ⌝ }
-{
-    if direction == 0 {
-        return b;
-    }
-    // no label is above
-    if b < 1024 { b + 1024 } else { b }
-}
-
-// The label of a way, and its direction.
-pub fn label_of(way: usize) -> u16
-    ensures { λ r. ⌜ r ≡ labelIn way ⌝ }
-{
-    (way % 1024) as u16
-}
-
-pub fn side_of(way: usize) -> u8
-    ensures { λ r. ⌜ r ≡ sideIn way ⌝ }
-{
-    if way < 1024 { 0 } else { 1 }
 }
 
 // The entry of a way in a section of the map.

@@ -7,7 +7,7 @@ ghost use mir.Syntax.{w64};
 ghost use mir.Val.{ofZ};
 ghost use Rattle.expr.specs.Answers.{arraysOf};
 ghost use Rattle.moves.specs.Stores.{applied};
-ghost use Rattle.decide.specs.Sets.{worked, operatorAt, EntrySays, entryBy, faultOf, Leaves, setEntry};
+ghost use Rattle.decide.specs.Sets.{worked, EntrySays, entryBy, faultOf, Leaves, setEntry};
 ghost use Rattle.decide.specs.Ways.{setCell};
 
 // The largest value that an evaluation gives; what is above it is a refusal.
@@ -21,22 +21,6 @@ pub fn fault(w: i64) -> u8
     ensures { λ r. ⌜ r ≡ faultOf (ofZ w64 w) ⌝ }
 {
     if w == 4294967328 { 32 } else { 33 }
-}
-
-// "up the opposite one (`^` is its own)"
-pub fn operator(o: u16, direction: u8) -> u16
-    ensures { λ r. ⌜ r ≡ operatorAt o direction ⌝ }
-{
-    if direction == 0 {
-        return o;
-    }
-    if o == 0 {
-        return 1;
-    }
-    if o == 1 {
-        return 0;
-    }
-    o
 }
 
 fn apply(o: usize, x: i32, v: i32) -> i32

@@ -26,7 +26,8 @@ use Rattle.moves.proofs.View as seen
 use Rattle.expr.proofs.Layer.{and-true}
 use Rattle.table.proofs.Facts.{facts}
 use Rattle.table.proofs.Tabled.{Tabled}
-use Rattle.decide.specs.Decide.{Seen, Moved, lookIn, moreOf, otherOf, alongOf, gateOf, resumedOf, behindOf, refusedOf, enteredTo, enteredOf, returnedOf, moving, ruled, ruleOf}
+use Rattle.ways.specs.Looks.{lookIn, otherOf, alongOf, gateOf, resumedOf}
+use Rattle.decide.specs.Decide.{Seen, Moved, moreOf, behindOf, refusedOf, enteredTo, enteredOf, returnedOf, moving, ruled, ruleOf}
 use Rattle.decide.proofs.Rules.{behind-call, behind-uncall}
 use Rattle.fits.proofs.Few.{encl-room, stack-room, room}
 use Rattle.machine.proofs.Labels.{inside}

@@ -19,7 +19,7 @@ use Rattle.moves.proofs.Behind.{Zeros, zeros-are, run-behind}
 use Rattle.table.specs.Table.{tableOf}
 use Rattle.table.proofs.Tabled.{tabled}
 use Rattle.decide.specs.Ways.{ruleIn}
-use Rattle.decide.specs.Map.{Maps}
+use Rattle.ways.specs.Map.{Maps}
 use Rattle.machine.specs.Walk.{standOf, gone, goOf}
 use Rattle.machine.specs.Copies.{noBytes, noCells, padTo, widenTo}
 use Rattle.machine.specs.Whole.{givenBack}

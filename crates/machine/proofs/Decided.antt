@@ -24,7 +24,8 @@ use Rattle.moves.proofs.Rows.{prog}
 use Rattle.moves.proofs.Links.{at-is}
 use Rattle.moves.proofs.Accepted.{accepted-wf}
 use Rattle.table.proofs.Tabled.{Tabled, Part}
-use Rattle.decide.specs.Decide.{Seen, Moved, lookIn, alongOf, truthOf, pushedOf, poppedOf, changedOf, headIn, closedOf, againOf, openedOf, testedOf, Ruled, ruled, Rules, ruleOf}
+use Rattle.ways.specs.Looks.{lookIn, alongOf}
+use Rattle.decide.specs.Decide.{Seen, Moved, truthOf, pushedOf, poppedOf, changedOf, headIn, closedOf, againOf, openedOf, testedOf, Ruled, ruled, Rules, ruleOf}
 use Rattle.decide.proofs.Rules.{rule-test}
 use Rattle.machine.proofs.Labels.{near, offset-is}
 use Rattle.machine.proofs.Landing.{Fate}

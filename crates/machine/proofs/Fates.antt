@@ -20,7 +20,8 @@ use Rattle.moves.proofs.Loop.{fit1, fit3, lo-met, hi-met, pos1}
 use Rattle.moves.proofs.Rows.{prog}
 use Rattle.moves.proofs.View.{stack, fresh-stack, encl-left}
 use Rattle.table.proofs.Tabled.{Tabled, is-if, is-fi, is-from, is-until}
-use Rattle.decide.specs.Decide.{Seen, lookIn, alongOf, keptOf, pushedOf, poppedOf, changedOf, chosenOf, closedOf, openedOf, repeatedOf, testedOf, assignedOf, ruled, Rules, ruleOf}
+use Rattle.ways.specs.Looks.{lookIn, alongOf}
+use Rattle.decide.specs.Decide.{Seen, keptOf, pushedOf, poppedOf, changedOf, chosenOf, closedOf, openedOf, repeatedOf, testedOf, assignedOf, ruled, Rules, ruleOf}
 use Rattle.decide.specs.Sets.{Leaves, setAt}
 use Rattle.decide.proofs.Rules.{rule-set, rule-skip}
 use Rattle.machine.proofs.Labels.{small, inside}

@@ -26,7 +26,7 @@ use Rattle.moves.proofs.Gaps.{tip}
 use Rattle.moves.proofs.Accepted.{accepted-wf}
 use Rattle.table.proofs.Facts.{facts}
 use Rattle.table.proofs.Tabled.{Tabled}
-use Rattle.decide.specs.Decide.{lookIn, alongOf}
+use Rattle.ways.specs.Looks.{lookIn, alongOf}
 use Rattle.machine.proofs.Sets.{Stands}
 
 module _ {f : List ℕ} {t : Tree} (A : Accepts f t) where

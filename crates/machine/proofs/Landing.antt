@@ -23,7 +23,8 @@ use Rattle.moves.proofs.Rows.{prog}
 use Rattle.moves.proofs.Gaps.{tip}
 use Rattle.moves.proofs.View.{stack, view}
 use Rattle.table.proofs.Tabled.{Tabled}
-use Rattle.decide.specs.Decide.{Seen, Moved, alongOf, moreOf, keptOf, pushedOf, poppedOf, changedOf, againOf, Ruled, ruled}
+use Rattle.ways.specs.Looks.{alongOf}
+use Rattle.decide.specs.Decide.{Seen, Moved, moreOf, keptOf, pushedOf, poppedOf, changedOf, againOf, Ruled, ruled}
 use Rattle.machine.specs.Walk.{putIn}
 use Rattle.machine.proofs.Labels.{along-is}
 use Rattle.fits.proofs.Few.{room}

@@ -23,7 +23,8 @@ use Rattle.records.specs.Walk.{offsets}
 use Rattle.moves.specs.Labels.{at}
 use Rattle.moves.specs.Places.{Dir, down, up}
 use Rattle.moves.specs.Stores.{ok, bind, Store, layout, answered, evaluated, applied, operator, entryAt, cellOf, assigned}
-use Rattle.decide.specs.Sets.{operatorAt, entryBy, setTo, setEntry, setAt}
+use Rattle.ways.specs.Looks.{operatorAt}
+use Rattle.decide.specs.Sets.{entryBy, setTo, setEntry, setAt}
 
 operator-is : (o : ℕ) (d : Dir) → operatorAt o (dirNumber d) ≡ operator o d
 operator-is o down = refl

@@ -27,7 +27,7 @@ use Rattle.table.specs.Table.{tableOf}
 use Rattle.table.proofs.Tabled.{tabled}
 use Rattle.machine.specs.declared.Told.the-variants.{Refused}
 use Rattle.machine.specs.declared.Started.{Started}
-use Rattle.decide.specs.Decide.{gateOf, alongOf}
+use Rattle.ways.specs.Looks.{gateOf, alongOf}
 use Rattle.machine.specs.Whole.{numberOf, startOf}
 use Rattle.machine.specs.Answers.{numbered, direction, StartSays, refused, started}
 use Rattle.machine.proofs.Labels.{along-is}

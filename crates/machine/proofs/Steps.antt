@@ -31,10 +31,11 @@ use Rattle.moves.proofs.View.{stack, view, seen, side-call, side-uncall, calls-
 use Rattle.moves.proofs.Sees.{sees}
 use Rattle.moves.proofs.Match.{placed-fits, fits-placed}
 use Rattle.table.proofs.Tabled.{Tabled}
-use Rattle.decide.specs.Decide.{Seen, lookIn, procAt, enteredOf, returnedOf, Ruled, ruleOf}
-use Rattle.decide.specs.Ways.{wayTo, labelIn, sideIn, Sight, packed, ruleIn}
+use Rattle.ways.specs.Looks.{lookIn, procAt, wayTo, labelIn, sideIn}
+use Rattle.decide.specs.Decide.{Seen, enteredOf, returnedOf, Ruled, ruleOf}
+use Rattle.decide.specs.Ways.{Sight, packed, ruleIn}
 use Rattle.decide.specs.Ways as ways
-use Rattle.decide.specs.Map.{Maps}
+use Rattle.ways.specs.Map.{Maps}
 use Rattle.decide.proofs.Rules.{rule-call, rule-uncall, rule-return}
 use Rattle.decide.proofs.Mapped.{mapped}
 use Rattle.machine.specs.Walk.{spotOf, afterOf, standOf, heldBy, sightIn, movedTo, Gone, gone, goOf}

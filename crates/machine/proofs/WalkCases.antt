@@ -9,7 +9,8 @@ use lib.ListN.{getD, set}
 use Rattle.moves.specs.Stores.{Store}
 use Rattle.decide.specs.declared.Spot.{Spot}
 use Rattle.decide.specs.declared.Move.{Move}
-use Rattle.decide.specs.Ways.{labelIn, sideIn, Sight, sight, Ruled, Rules}
+use Rattle.ways.specs.Looks.{labelIn, sideIn}
+use Rattle.decide.specs.Ways.{Sight, sight, Ruled, Rules}
 use Rattle.machine.specs.declared.walk.Went.{Went}
 use Rattle.machine.specs.Walk.{putIn, callsIn, callsOf, Stand, heldBy, endedIn, spotBy, sightIn, Gone, goOf, Goes}
 

@@ -11,7 +11,8 @@ use Rattle.moves.specs.Stores.{Store}
 use Rattle.decide.specs.declared.Spot.{Spot}
 use Rattle.decide.specs.declared.Move.{Move}
 use Rattle.decide.specs.Decide.{Seen, Moved}
-use Rattle.decide.specs.Ways.{wayTo, labelIn, sideIn, Sight, Ruled}
+use Rattle.ways.specs.Looks.{wayTo, labelIn, sideIn}
+use Rattle.decide.specs.Ways.{Sight, Ruled}
 use Rattle.machine.specs.declared.walk.Went.{Went}
 
 unfoldable pub putIn : List ℕ → ℕ → ℕ → List ℕ

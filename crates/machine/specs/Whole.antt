@@ -15,9 +15,9 @@ use Rattle.machine.specs.declared.Told.{Told}
 use Rattle.machine.specs.declared.Told.the-variants.{Done, Refused}
 use Rattle.machine.specs.declared.Ran.{Ran}
 use Rattle.machine.specs.declared.Started.{Started}
-use Rattle.decide.specs.Decide.{gateOf, alongOf}
+use Rattle.ways.specs.Looks.{gateOf, alongOf}
 use Rattle.decide.specs.Ways.{ruleIn}
-use Rattle.decide.specs.Map.{Maps}
+use Rattle.ways.specs.Map.{Maps}
 use Rattle.machine.specs.declared.walk.Went.{Went}
 use Rattle.machine.specs.Walk.{callsOf, standOf, Gone, goOf, Goes}
 use Rattle.machine.specs.Copies.{padTo, widenTo, backTo}

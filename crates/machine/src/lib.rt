@@ -67,7 +67,7 @@ fn went(
 {
     let bytes = copies::padded(file);
     let arrays = program::arrays::arrays(file);
-    let map = decide::map::map(&bytes, table, records);
+    let map = ways::map::map(&bytes, table, records);
     let calls = walk::calls(&place.kinds, place.count);
     let mut cells = copies::widened(store);
     let went = walk::go(&bytes, &map, &arrays, &mut cells, place, calls, n);
@@ -158,8 +158,8 @@ fn begun(file: &[u8], up: bool) -> Started
 {
     let table = table::table(file);
     let d = number(up);
-    let a = decide::gate(&table, 0, d);
-    let b = decide::along(&table, d, a);
+    let a = ways::gate(&table, 0, d);
+    let b = ways::along(&table, d, a);
     let blank = Place::blank();
     let place = blank.moved(d, a, b);
     Started {

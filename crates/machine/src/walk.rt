@@ -1,13 +1,14 @@
 // The loop of a run: one place, taken apart into locals, into which each step stores; no copy of it is made in a turn.
 use decide::Spot;
 use decide::decide;
-use decide::label_of;
-use decide::side_of;
-use decide::way_to;
 use place::Place;
+use ways::label_of;
+use ways::side_of;
+use ways::way_to;
 ghost use mathlib.Core.Path.{_≡_};
 ghost use Prim.Native.Nat.{_≤_};
-ghost use Rattle.decide.specs.Ways.{wayTo, ruleIn};
+ghost use Rattle.ways.specs.Looks.{wayTo};
+ghost use Rattle.decide.specs.Ways.{ruleIn};
 ghost use Rattle.machine.specs.Walk.{putIn, callsIn, callsOf, spotBy, endedIn, standOf, goOf, Goes};
 
 // How far it went: why it stopped (0: all steps were made), how many were made, and where it is.
