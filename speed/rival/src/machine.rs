@@ -2,14 +2,15 @@
 
 use crate::check::*;
 use crate::table::*;
-use crate::value::{cell, operand, reason, value, MAX_CELLS};
+use crate::value::{cell, operand, reason, worth, MAX_CELLS};
 
 pub const MAX_FRAMES: usize = 1104;
 const MAX_CALLS: usize = 64;
 
 const TRUE: u16 = 0;
-const FIRST: u16 = 2;
-const SECOND: u16 = 3;
+const FALSE: u16 = 1;
+const IN_DO: u16 = 2;
+const IN_LOOP: u16 = 3;
 const CALLED: u16 = 4;
 
 /// Slot 0 is the outermost frame, so that a push or a pop touches one slot.
@@ -47,9 +48,8 @@ pub fn run(
     let is_call = |kind: &&u16| **kind == CALLED;
     let mut going = Going {
         calls: place.kinds[..place.count].iter().filter(is_call).count(),
-        direction: place.direction,
+        way: usize::from(place.b) + MAX_RECORDS * place.direction,
         a: place.a,
-        b: place.b,
         count: place.count,
         kinds: &mut place.kinds,
         labels: &mut place.labels,
@@ -63,22 +63,16 @@ pub fn run(
         }
         steps += 1;
     }
-    let Going {
-        direction,
-        a,
-        b,
-        count,
-        ..
-    } = going;
-    (place.direction, place.a, place.b, place.count) = (direction, a, b, count);
+    let Going { way, a, count, .. } = going;
+    (place.direction, place.b) = (way / MAX_RECORDS, (way % MAX_RECORDS) as u16);
+    (place.a, place.count) = (a, count);
     (steps, reason)
 }
 
-/// The place during a run: all but the frames stays in registers.
+/// The place during a run: all but the frames stays in registers. The way is the label met and the direction in one number.
 struct Going<'a> {
-    direction: usize,
+    way: usize,
     a: u16,
-    b: u16,
     count: usize,
     calls: usize,
     kinds: &'a mut [u16; MAX_FRAMES],
@@ -86,6 +80,11 @@ struct Going<'a> {
 }
 
 impl Going<'_> {
+    #[inline(always)]
+    fn label(&self) -> u16 {
+        (self.way % MAX_RECORDS) as u16
+    }
+
     #[inline(always)]
     fn push(&mut self, kind: u16, label: u16) {
         self.kinds[self.count] = kind;
@@ -102,30 +101,43 @@ impl Going<'_> {
         label
     }
 
+    #[inline(always)]
+    fn go(&mut self, next: u16) -> u8 {
+        self.a = self.label();
+        self.way = usize::from(next);
+        0
+    }
+
     /// 0 where it arrived; a refused step changes nothing.
     #[inline(always)]
     fn step(&mut self, program: &Program, store: &mut [i32; MAX_CELLS]) -> u8 {
-        let label = self.b;
-        let row = program.row(label);
-        let (refused, next) = match row[KIND] {
-            SKIP => (0, self.onward(row)),
-            SET => (
-                set(program, store, usize::from(row[BODY]), self.direction),
-                self.onward(row),
-            ),
-            CALL | UNCALL => return self.enter(row),
-            BEGIN | END => return self.leave(program),
+        let row = program.row(self.way);
+        match row[ACT] {
+            SET => {
+                let mut at = usize::from(row[EXPR]);
+                let refused = set(program, store, &mut at, row[FIRST], i64::from(row[SECOND]));
+                if refused != 0 {
+                    return refused;
+                }
+                self.go(row[YES])
+            }
+            SET_ENTRY => {
+                let mut at = usize::from(row[EXPR]);
+                let target = cell(program, store, row[SECOND], &mut at);
+                if reason(target) != 0 {
+                    return reason(target);
+                }
+                let refused = set(program, store, &mut at, row[FIRST], target);
+                if refused != 0 {
+                    return refused;
+                }
+                self.go(row[YES])
+            }
+            SKIP => self.go(row[YES]),
+            CALL => self.enter(row),
+            RETURN => self.leave(program),
             _ => self.test(program, store, row),
-        };
-        if refused == 0 {
-            (self.a, self.b) = (label, next);
         }
-        refused
-    }
-
-    #[inline(always)]
-    fn onward(&self, row: &Row) -> u16 {
-        row[DOWN + (self.direction & 1)]
     }
 
     #[inline(always)]
@@ -134,114 +146,90 @@ impl Going<'_> {
             return 34;
         }
         self.calls += 1;
-        self.push(CALLED, self.b);
-        self.direction ^= usize::from(row[KIND] == UNCALL);
-        (self.a, self.b) = match self.direction {
-            0 => (row[MID], row[MID] + 1),
-            _ => (row[MATE], row[MATE] - 1),
-        };
+        self.push(CALLED, self.label());
+        (self.a, self.way) = (row[FIRST], usize::from(row[SECOND]));
         0
     }
 
     #[inline(always)]
     fn leave(&mut self, program: &Program) -> u8 {
-        if self.count == 0 {
+        if self.calls == 0 {
             return 30;
         }
         self.calls -= 1;
         self.a = self.pop();
-        let row = program.row(self.a);
-        self.direction ^= usize::from(row[KIND] == UNCALL);
-        self.b = self.onward(row);
+        let side = self.way & MAX_RECORDS;
+        self.way = usize::from(program.row(usize::from(self.a) | side)[YES]);
         0
     }
 
-    /// IF, FI, FROM and UNTIL: the reason, and the label that follows.
+    /// IF, FI, FROM and UNTIL, by what they do in this direction.
     #[inline(always)]
-    fn test(&mut self, program: &Program, store: &[i32; MAX_CELLS], row: &Row) -> (u8, u16) {
-        let mut at = usize::from(row[BODY]);
-        let tested = value(program, store, &mut at);
+    fn test(&mut self, program: &Program, store: &[i32; MAX_CELLS], row: &Row) -> u8 {
+        let tested = worth(program, store, usize::from(row[EXPR]));
         if reason(tested) != 0 {
-            return (reason(tested), 0);
+            return reason(tested);
         }
-        let label = self.b;
         let holds = tested != 0;
-        let branch = TRUE + u16::from(!holds);
         let top = self.count.wrapping_sub(1);
-        let next = match (row[KIND], self.direction) {
-            (IF, 0) => {
-                self.push(branch, label);
-                [row[MID], label][usize::from(holds)] + 1
+        match row[ACT] {
+            IF if holds => {
+                self.push(TRUE, row[HEAD]);
+                self.go(row[YES])
             }
-            (FI, 1) => {
-                self.push(branch, row[MATE]);
-                [label, row[MID]][usize::from(holds)] - 1
+            IF => {
+                self.push(FALSE, row[HEAD]);
+                self.go(row[NO])
             }
-            (IF | FI, _) => {
-                if self.kinds[top] != branch {
-                    return (31, 0);
+            FI => {
+                if (self.kinds[top] == TRUE) != holds {
+                    return 31;
                 }
                 self.pop();
-                self.onward(row)
+                self.go(row[YES])
             }
-            (FROM, 0) => match self.open(label, holds) {
-                0 => label + 1,
-                refused => return (refused, 0),
-            },
-            (UNTIL, 1) => match self.open(row[MATE], holds) {
-                0 => row[MID] - 1,
-                refused => return (refused, 0),
-            },
+            FROM => {
+                let again = self.count > 0 && self.labels[top] == row[HEAD];
+                if holds == again {
+                    return 31;
+                }
+                if again {
+                    self.kinds[top] = IN_DO;
+                } else {
+                    self.push(IN_DO, row[HEAD]);
+                }
+                self.go(row[YES])
+            }
             _ if holds => {
                 self.pop();
-                self.onward(row)
+                self.go(row[YES])
             }
-            (_, up) => {
-                self.kinds[top] = SECOND;
-                [row[MID] + 1, row[MATE] - 1][up & 1]
+            _ => {
+                self.kinds[top] = IN_LOOP;
+                self.go(row[NO])
             }
-        };
-        (0, next)
-    }
-
-    /// Coming from s2 the innermost frame is the loop's own.
-    #[inline(always)]
-    fn open(&mut self, opener: u16, holds: bool) -> u8 {
-        let from_second = self.count > 0 && self.labels[self.count - 1] == opener;
-        if holds == from_second {
-            return 31;
         }
-        if from_second {
-            self.kinds[self.count - 1] = FIRST;
-        } else {
-            self.push(FIRST, opener);
-        }
-        0
     }
 }
 
-fn set(program: &Program, store: &mut [i32; MAX_CELLS], body: usize, up: usize) -> u8 {
-    let file = &program.file;
-    let body = body & (MAX_FILE - 1);
-    let number = u16::from_le_bytes([file[body + 2], file[body + 3]]);
-    let mut at = body + 4;
-    let mut target = i64::from(number);
-    if file[body + 1] == 1 {
-        target = cell(program, store, number, &mut at);
-        if reason(target) != 0 {
-            return reason(target);
-        }
-    }
-    let change = operand(program, store, &mut at);
+#[inline(always)]
+fn set(
+    program: &Program,
+    store: &mut [i32; MAX_CELLS],
+    at: &mut usize,
+    operator: u16,
+    target: i64,
+) -> u8 {
+    let change = operand(program, store, at);
     if reason(change) != 0 {
         return reason(change);
     }
     let change = change as i32;
     let held = &mut store[target as usize & (MAX_CELLS - 1)];
-    *held = match (file[body], up) {
-        (2, _) => *held ^ change,
-        (0, 0) | (1, 1) => held.wrapping_add(change),
-        _ => held.wrapping_sub(change),
+    *held = match operator {
+        0 => held.wrapping_add(change),
+        1 => held.wrapping_sub(change),
+        _ => *held ^ change,
     };
     0
 }

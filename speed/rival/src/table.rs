@@ -20,9 +20,27 @@ pub type Row = [u16; 8];
 /// Room after the longest file, so that four bytes can be read wherever one begins.
 pub const FILE_ROOM: usize = MAX_FILE + 8;
 
+/// Columns of the map, one row a way: a label, and `MAX_RECORDS` more upwards. What the record does there.
+pub const ACT: usize = 0;
+/// The way on from it, where its test holds or there is none; and where it does not hold.
+pub const YES: usize = 1;
+pub const NO: usize = 2;
+/// A call's record by which the procedure is entered and the way from there, or a SET's operator and its cell or array.
+pub const FIRST: usize = 3;
+pub const SECOND: usize = 4;
+/// Where its expression stands; the label of its construct's IF or FROM.
+pub const EXPR: usize = 5;
+pub const HEAD: usize = 6;
+
+/// What `ACT` says, beside the kinds of records that do it downwards.
+pub const RETURN: u16 = 3;
+pub const SET_ENTRY: u16 = 6;
+
+pub const WAYS: usize = 2 * MAX_RECORDS;
+
 pub struct Program {
     pub file: Box<[u8; FILE_ROOM]>,
-    pub rows: Box<[Row; MAX_RECORDS]>,
+    pub ways: Box<[Row; WAYS]>,
     /// First cell and length of each array.
     pub arrays: [[u16; 2]; 16],
     pub cells: usize,
@@ -30,8 +48,8 @@ pub struct Program {
 
 impl Program {
     #[inline(always)]
-    pub fn row(&self, label: u16) -> &Row {
-        &self.rows[usize::from(label) & (MAX_RECORDS - 1)]
+    pub fn row(&self, way: usize) -> &Row {
+        &self.ways[way & (WAYS - 1)]
     }
 
     pub fn new(bytes: &[u8]) -> Result<Program, Fault> {
@@ -47,11 +65,67 @@ impl Program {
         file[..bytes.len()].copy_from_slice(bytes);
         Ok(Program {
             file,
-            rows: rows(bytes, &records),
+            ways: ways(bytes, &rows(bytes, &records)),
             arrays,
             cells: usize::from(cells),
         })
     }
+}
+
+/// The map: all that a step asks, by label and direction.
+fn ways(file: &[u8], rows: &[Row; MAX_RECORDS]) -> Box<[Row; WAYS]> {
+    let mut ways = Box::new([[0; 8]; WAYS]);
+    for (label, row) in rows
+        .iter()
+        .enumerate()
+        .skip(1)
+        .filter(|(_, row)| row[KIND] != 0)
+    {
+        for up in [0, 1] {
+            ways[label + MAX_RECORDS * up] = way_of(file, label as u16, row, up);
+        }
+    }
+    ways
+}
+
+fn way_of(file: &[u8], label: u16, row: &Row, up: usize) -> Row {
+    let to = |label: u16, up: usize| label + (MAX_RECORDS * up) as u16;
+    let onward = |up: usize| to(row[DOWN + up], up);
+    let [kind, mid, mate] = [row[KIND], row[MID], row[MATE]];
+    let mut way = [kind, onward(up), 0, 0, 0, row[BODY], label, 0];
+    match (kind, up) {
+        (SET, _) => {
+            let at = usize::from(row[BODY]);
+            way[ACT] = [SET, SET_ENTRY][usize::from(file[at + 1] != 0)];
+            way[FIRST] = match file[at] {
+                2 => 2,
+                operator => u16::from(operator) ^ up as u16,
+            };
+            way[SECOND] = u16_at(file, at + 2);
+            way[EXPR] += 4;
+        }
+        (CALL | UNCALL, _) => {
+            let turned = up ^ usize::from(kind == UNCALL);
+            way[ACT] = CALL;
+            way[YES] = onward(turned);
+            way[FIRST] = [mid, mate][turned];
+            way[SECOND] = to([mid + 1, mate.wrapping_sub(1)][turned], turned);
+        }
+        (BEGIN | END, _) => way[ACT] = RETURN,
+        (IF, 0) => (way[YES], way[NO]) = (label + 1, mid + 1),
+        (IF, _) => way[ACT] = FI,
+        (FI, 0) => {}
+        (FI, _) => {
+            way[ACT] = IF;
+            (way[YES], way[NO], way[HEAD]) = (to(mid - 1, 1), to(label - 1, 1), mate);
+        }
+        (FROM, 0) => way[YES] = label + 1,
+        (FROM, _) => (way[ACT], way[NO]) = (UNTIL, to(mate - 1, 1)),
+        (UNTIL, 0) => way[NO] = mid + 1,
+        (UNTIL, _) => (way[ACT], way[YES], way[HEAD]) = (FROM, to(mid - 1, 1), mate),
+        _ => {}
+    }
+    way
 }
 
 fn rows(file: &[u8], records: &[Record]) -> Box<[Row; MAX_RECORDS]> {

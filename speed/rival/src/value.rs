@@ -80,6 +80,36 @@ pub fn value(program: &Program, store: &[i32; MAX_CELLS], at: &mut usize) -> i64
     }
 }
 
+/// A condition: an operator on two constants or scalars needs no call.
+#[inline(always)]
+pub fn worth(program: &Program, store: &[i32; MAX_CELLS], at: usize) -> i64 {
+    let here = at & (MAX_FILE - 1);
+    let file = &program.file;
+    let mut at = here;
+    if here < MAX_FILE - 16 && file[here] == 3 && file[here + 2] < 2 {
+        let middle = here + 2 + leaf_size(file[here + 2]);
+        if file[middle] < 2 {
+            let left = leaf(program, store, here + 2);
+            let right = leaf(program, store, middle);
+            return apply(file[here + 1], left as i32, right as i32);
+        }
+    }
+    value(program, store, &mut at)
+}
+
+#[inline(always)]
+fn leaf_size(tag: u8) -> usize {
+    [5, 3][usize::from(tag & 1)]
+}
+
+#[inline(always)]
+fn leaf(program: &Program, store: &[i32; MAX_CELLS], at: usize) -> i64 {
+    match program.file[at] {
+        0 => constant(program, at + 1),
+        _ => held(store, usize::from(number(program, at + 1))),
+    }
+}
+
 /// The cell of an array at the index that stands at the position, tested.
 #[inline(always)]
 pub fn cell(program: &Program, store: &[i32; MAX_CELLS], array: u16, at: &mut usize) -> i64 {
