@@ -4,6 +4,7 @@ use Prim.Native.Nat.{ℕ, _+_, _-_}
 use mathlib.Core.List.{List}
 use mathlib.Core.Path.{_≡_}
 use mathlib.Core.Bool.{Bool, false, cond}
+use lib.ListN.{set}
 use lib.Dec.{ltb, leb, eqb}
 use Rattle.values.specs.Values.{isTrue}
 use Rattle.expr.specs.Tree.{Worth, value, stop}
@@ -40,6 +41,14 @@ moreOf n = cond (ltb n 1104) (n + 1) n
 abbrev pub fewerOf : ℕ → ℕ
 fewerOf n = n - 1
 
+-- the slot of the innermost of n frames; where there is none, none
+abbrev pub slotOf : ℕ → ℕ
+slotOf n = cond (eqb n 0) 1104 (n - 1)
+
+-- a slot written; a number that no slot has writes nothing
+unfoldable pub putIn : List ℕ → ℕ → ℕ → List ℕ
+putIn s i v = cond (ltb i 1104) (set s i v) s
+
 -- 0 false, 1 true, else the number of what stops it
 abbrev pub truthOf : Worth → ℕ
 truthOf (value v) = cond (isTrue v) 1 0
@@ -59,10 +68,10 @@ abbrev pub pushedOf : Seen → ℕ → ℕ → ℕ → Moved
 pushedOf s y k l = moving 0 (s .direction) (s .b) y (s .calls) (moreOf (s .count)) (s .count) k l
 
 abbrev pub poppedOf : Seen → ℕ → Moved
-poppedOf s y = moving 0 (s .direction) (s .b) y (s .calls) (fewerOf (s .count)) (fewerOf (s .count)) 0 0
+poppedOf s y = moving 0 (s .direction) (s .b) y (s .calls) (fewerOf (s .count)) (slotOf (s .count)) 0 0
 
 abbrev pub changedOf : Seen → ℕ → ℕ → Moved
-changedOf s y k = moving 0 (s .direction) (s .b) y (s .calls) (s .count) (fewerOf (s .count)) k (s .label)
+changedOf s y k = moving 0 (s .direction) (s .b) y (s .calls) (s .count) (slotOf (s .count)) k (s .label)
 
 abbrev pub headIn : Seen → List ℕ → ℕ
 headIn s tab = lookIn tab (2048 + s .b)
@@ -111,7 +120,7 @@ abbrev pub behindOf : List ℕ → ℕ → ℕ → ℕ
 behindOf tab l d = leftAt tab (actOf (lookIn tab (1024 + l)) d) l d false
 
 abbrev pub backOf : Seen → ℕ → ℕ → List ℕ → Moved
-backOf s d l tab = moving 0 d l (alongOf tab d (behindOf tab l (s .direction))) (s .calls - 1) (fewerOf (s .count)) (fewerOf (s .count)) 0 0
+backOf s d l tab = moving 0 d l (alongOf tab d (behindOf tab l (s .direction))) (s .calls - 1) (fewerOf (s .count)) (slotOf (s .count)) 0 0
 
 unfoldable pub returnedOf : Seen → List ℕ → Moved
 returnedOf s tab = cond (eqb (s .calls) 0) (refusedOf s 30) (backOf s (resumedOf tab (s .label) (s .direction)) (s .label) tab)

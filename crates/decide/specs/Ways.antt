@@ -1,6 +1,6 @@
 -- What a step decides by the map of a run, for any map, as the code does. Nothing here has to be believed: proofs/Mapped joins
 -- it to the decision by the table. A way is a label and a direction in one number: the label, and 1,024 more upwards.
-use Prim.Native.Nat.{ℕ, _+_, _-_, _*_, _/_}
+use Prim.Native.Nat.{ℕ, _+_, _-_}
 use mathlib.Core.List.{List}
 use mathlib.Core.Path.{_≡_}
 use mathlib.Core.Bool.{Bool, false, cond, Bool·beq as same}
@@ -12,7 +12,7 @@ use Rattle.place.specs.Methods.{topAt}
 use Rattle.moves.specs.Stores.{Answer, ok, no, number, Store}
 use Rattle.ways.specs.Looks.{labelIn, wayTo}
 use Rattle.decide.specs.Sets.{setTo, setEntry}
-use Rattle.decide.specs.Decide.{Seen, Moved, Ruled as Tabled, moreOf, fewerOf, truthOf}
+use Rattle.decide.specs.Decide.{Seen, Moved, Ruled as Tabled, moreOf, fewerOf, slotOf, putIn, truthOf}
 use Rattle.decide.specs.declared.Spot.{Spot}
 use Rattle.decide.specs.declared.Move.{Move}
 
@@ -64,76 +64,105 @@ exprIn m w = getD m (10240 + w) 0
 abbrev pub headIn : List ℕ → ℕ → ℕ
 headIn m w = getD m (12288 + w) 0
 
+-- what it does: reason 0, the next way and the label before it, or the reason; one slot is written (none: 1,104), and so many frames are left
+pub record Doing : Type 0 where
+  pub reason : ℕ
+  pub way : ℕ
+  pub a : ℕ
+  pub calls : ℕ
+  pub count : ℕ
+  pub slot : ℕ
+  pub kind : ℕ
+  pub label : ℕ
+
+-- what of it is answered; the slot is written
+abbrev pub told : Doing → Move
+told d = record { reason = d .reason; way = d .way; a = d .a; calls = d .calls; count = d .count }
+
+-- the slots afterwards; a refused step writes none
+abbrev pub written : Doing → List ℕ → ℕ → List ℕ
+written d s v = cond (eqb (d .reason) 0) (putIn s (d .slot) v) s
+
+-- the move answered and the slots left are these
+pub record Does (d : Doing) (ks ls : List ℕ) (m : Move) (ks′ ls′ : List ℕ) : Type 0 where
+  pub made : m ≡ told d
+  pub kinds : ks′ ≡ written d ks (d .kind)
+  pub labels : ls′ ≡ written d ls (d .label)
+
 -- ---- the frames
-abbrev pub moving : ℕ → ℕ → ℕ → ℕ → ℕ → ℕ → ℕ → ℕ → Move
+abbrev pub moving : ℕ → ℕ → ℕ → ℕ → ℕ → ℕ → ℕ → ℕ → Doing
 moving reason w a calls count slot kind label =
     record { reason = reason; way = w; a = a; calls = calls; count = count; slot = slot; kind = kind; label = label }
 
-abbrev pub refusedIn : Sight → ℕ → Move
+abbrev pub refusedIn : Sight → ℕ → Doing
 refusedIn s n = moving n (s .way) 0 (s .calls) (s .count) 1104 0 0
 
-abbrev pub keptIn : Sight → ℕ → Move
+abbrev pub keptIn : Sight → ℕ → Doing
 keptIn s y = moving 0 y (labelIn (s .way)) (s .calls) (s .count) 1104 0 0
 
-abbrev pub pushedIn : Sight → ℕ → ℕ → ℕ → Move
+abbrev pub pushedIn : Sight → ℕ → ℕ → ℕ → Doing
 pushedIn s y k l = moving 0 y (labelIn (s .way)) (s .calls) (moreOf (s .count)) (s .count) k l
 
-abbrev pub poppedIn : Sight → ℕ → Move
-poppedIn s y = moving 0 y (labelIn (s .way)) (s .calls) (fewerOf (s .count)) (fewerOf (s .count)) 0 0
+abbrev pub poppedIn : Sight → ℕ → Doing
+poppedIn s y = moving 0 y (labelIn (s .way)) (s .calls) (fewerOf (s .count)) (slotOf (s .count)) 0 0
 
-abbrev pub changedIn : Sight → ℕ → ℕ → Move
-changedIn s y k = moving 0 y (labelIn (s .way)) (s .calls) (s .count) (fewerOf (s .count)) k (s .label)
+abbrev pub changedIn : Sight → ℕ → ℕ → Doing
+changedIn s y k = moving 0 y (labelIn (s .way)) (s .calls) (s .count) (slotOf (s .count)) k (s .label)
 
--- ---- the acts
-unfoldable pub chosenIn : Sight → ℕ → List ℕ → Move
+-- ---- the acts; an expression that is stopped holds the number of its reason
+abbrev pub passedIn : Sight → ℕ → Doing → Doing
+passedIn s v d = cond (leb 2 v) (refusedIn s v) d
+
+unfoldable pub chosenIn : Sight → ℕ → List ℕ → Doing
 chosenIn s v m = cond (eqb v 0) (pushedIn s (noIn m (s .way)) 1 (headIn m (s .way))) (pushedIn s (yesIn m (s .way)) 0 (headIn m (s .way)))
 
-unfoldable pub closedIn : Sight → ℕ → List ℕ → Move
+unfoldable pub closedIn : Sight → ℕ → List ℕ → Doing
 closedIn s v m = cond (same (eqb v 0) (eqb (s .kind) 0)) (refusedIn s 31) (poppedIn s (yesIn m (s .way)))
 
 -- the innermost frame is in s2 of the loop that is met
 abbrev pub againIn : Sight → ℕ → Bool
 againIn s h = cond (eqb (s .kind) 3) (eqb (s .label) h) false
 
-unfoldable pub openedIn : Sight → ℕ → List ℕ → Move
+unfoldable pub openedIn : Sight → ℕ → List ℕ → Doing
 openedIn s v m =
     cond (againIn s (headIn m (s .way)))
     (cond (eqb v 0) (changedIn s (yesIn m (s .way)) 2) (refusedIn s 31))
     (cond (eqb v 0) (refusedIn s 31) (pushedIn s (yesIn m (s .way)) 2 (headIn m (s .way))))
 
-unfoldable pub repeatedIn : Sight → ℕ → List ℕ → Move
+unfoldable pub repeatedIn : Sight → ℕ → List ℕ → Doing
 repeatedIn s v m = cond (eqb v 0) (changedIn s (noIn m (s .way)) 3) (poppedIn s (yesIn m (s .way)))
 
-unfoldable pub enteredIn : Sight → List ℕ → Move
+unfoldable pub enteredIn : Sight → List ℕ → Doing
 enteredIn s m =
     cond (leb 64 (s .calls)) (refusedIn s 34)
     (moving 0 (secondIn m (s .way)) (firstIn m (s .way)) (s .calls + 1) (moreOf (s .count)) (s .count) 4 (labelIn (s .way)))
 
-abbrev pub backIn : Sight → ℕ → List ℕ → Move
-backIn s l m = moving 0 (yesIn m (l + s .way / 1024 * 1024)) l (s .calls - 1) (fewerOf (s .count)) (fewerOf (s .count)) 0 0
+-- back at the calling record l, in the direction of the half `side` of a section
+abbrev pub backIn : Sight → ℕ → ℕ → List ℕ → Doing
+backIn s l side m = moving 0 (yesIn m (l + side)) l (s .calls - 1) (fewerOf (s .count)) (slotOf (s .count)) 0 0
 
-unfoldable pub returnedIn : Sight → List ℕ → Move
-returnedIn s m = cond (eqb (s .calls) 0) (refusedIn s 30) (cond (ltb (s .label) 1024) (backIn s (s .label) m) (refusedIn s 21))
+unfoldable pub returnedIn : Sight → ℕ → List ℕ → Doing
+returnedIn s side m = cond (eqb (s .calls) 0) (refusedIn s 30) (cond (ltb (s .label) 1024) (backIn s (s .label) side m) (refusedIn s 21))
 
 -- the record met does a, and its expression holds v
-unfoldable pub testedIn : Sight → ℕ → ℕ → List ℕ → Move
+unfoldable pub testedIn : Sight → ℕ → ℕ → List ℕ → Doing
 testedIn s a v m =
-    cond (leb 2 v) (refusedIn s v) (cond (eqb a 5) (chosenIn s v m) (cond (eqb a 7) (closedIn s v m) (cond (eqb a 8) (openedIn s v m) (repeatedIn s v m))))
+    passedIn s v (cond (eqb a 5) (chosenIn s v m) (cond (eqb a 7) (closedIn s v m) (cond (eqb a 8) (openedIn s v m) (repeatedIn s v m))))
 
-abbrev pub assignedIn : Sight → ℕ → List ℕ → Move
+abbrev pub assignedIn : Sight → ℕ → List ℕ → Doing
 assignedIn s n m = cond (eqb n 0) (keptIn s (yesIn m (s .way))) (refusedIn s n)
 
 -- ---- the move, and the store after it
 pub record Ruled : Type 0 where
-  pub move : Move
+  pub move : Doing
   pub store : Store
 
--- the move answered and the store left are these
-pub record Rules (x : Ruled) (m : Move) (σ : Store) : Type 0 where
-  pub made : m ≡ x .move
+-- and so is the store
+pub record Rules (x : Ruled) (ks ls : List ℕ) (m : Move) (ks′ ls′ : List ℕ) (σ : Store) : Type 0 where
+  pub does : Does (x .move) ks ls m ks′ ls′
   pub left : σ ≡ x .store
 
-abbrev pub ruled : Move → Store → Ruled
+abbrev pub ruled : Doing → Store → Ruled
 ruled m σ = record { move = m; store = σ }
 
 abbrev pub afterSet : Sight → List ℕ → Store → Answer Store → Ruled
@@ -144,23 +173,30 @@ afterSet s m σ (no q) = ruled (assignedIn s (number q) m) σ
 unfoldable pub setCell : List ℕ → ℕ → ℕ → ℕ → List ℕ → Store → Answer Store
 setCell f at c o arr σ = setTo c o σ (worthAt arr σ (within 32768 f at))
 
+-- a SET of a cell, by its act
+abbrev pub cellIn : List ℕ → List ℕ → List ℕ → Sight → Store → ℕ → Ruled
+cellIn f m arr s σ o = afterSet s m σ (setCell f (exprIn m (s .way)) (secondIn m (s .way)) o arr σ)
+
 -- no way is 2,048 or above, and no fitting place comes to one
 unfoldable pub ruleIn : List ℕ → List ℕ → List ℕ → Sight → Store → Ruled
 ruleIn f m arr s σ =
     cond (ltb (s .way) 2048)
-    (cond (eqb (actIn m (s .way)) 4) (afterSet s m σ (setCell f (exprIn m (s .way)) (secondIn m (s .way)) (firstIn m (s .way)) arr σ))
+    (cond (eqb (actIn m (s .way)) 4) (cellIn f m arr s σ 0)
+    (cond (eqb (actIn m (s .way)) 12) (cellIn f m arr s σ 1)
+    (cond (eqb (actIn m (s .way)) 14) (cellIn f m arr s σ 2)
     (cond (eqb (actIn m (s .way)) 6) (afterSet s m σ (setEntry f (exprIn m (s .way)) (secondIn m (s .way)) (firstIn m (s .way)) arr σ))
     (cond (eqb (actIn m (s .way)) 13) (ruled (keptIn s (yesIn m (s .way))) σ)
     (cond (eqb (actIn m (s .way)) 11) (ruled (enteredIn s m) σ)
-    (cond (eqb (actIn m (s .way)) 3) (ruled (returnedIn s m) σ)
-    (ruled (testedIn s (actIn m (s .way)) (truthOf (worthAt arr σ (within 32768 f (exprIn m (s .way))))) m) σ))))))
+    (cond (eqb (actIn m (s .way)) 3) (ruled (returnedIn s 0 m) σ)
+    (cond (eqb (actIn m (s .way)) 9) (ruled (returnedIn s 1024 m) σ)
+    (ruled (testedIn s (actIn m (s .way)) (truthOf (worthAt arr σ (within 32768 f (exprIn m (s .way))))) m) σ)))))))))
     (ruled (refusedIn s 21) σ)
 
 -- ---- what is decided by the table, as it is said by the map
 abbrev pub sightOf : Seen → Sight
 sightOf S = record { way = wayTo (S .b) (S .direction); calls = S .calls; count = S .count; kind = S .kind; label = S .label }
 
-abbrev pub packedMove : Moved → Move
+abbrev pub packedMove : Moved → Doing
 packedMove m = moving (m .reason) (wayTo (m .b) (m .direction)) (m .a) (m .calls) (m .count) (m .slot) (m .kind) (m .label)
 
 abbrev pub packed : Tabled → Ruled

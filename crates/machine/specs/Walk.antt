@@ -3,20 +3,16 @@ use Prim.Native.Nat.{ℕ, zero, suc, _+_}
 use mathlib.Core.List.{List}
 use mathlib.Core.Path.{_≡_}
 use mathlib.Core.Bool.{cond}
-use lib.ListN.{getD, set}
-use lib.Dec.{ltb, leb, eqb}
+use lib.ListN.{getD}
+use lib.Dec.{leb, eqb}
 use Rattle.place.specs.declared.Place.{Place as Held}
 use Rattle.place.specs.Methods.{topAt}
 use Rattle.moves.specs.Stores.{Store}
 use Rattle.decide.specs.declared.Spot.{Spot}
-use Rattle.decide.specs.declared.Move.{Move}
-use Rattle.decide.specs.Decide.{Seen, Moved}
+use Rattle.decide.specs.Decide.{Seen, Moved, putIn}
 use Rattle.ways.specs.Looks.{wayTo, labelIn, sideIn}
-use Rattle.decide.specs.Ways.{Sight, Ruled}
+use Rattle.decide.specs.Ways.{Sight, Doing, Ruled}
 use Rattle.machine.specs.declared.walk.Went.{Went}
-
-unfoldable pub putIn : List ℕ → ℕ → ℕ → List ℕ
-putIn s i v = cond (ltb i 1104) (set s i v) s
 
 unfoldable pub callsIn : List ℕ → ℕ → ℕ
 callsIn s zero = 0
@@ -52,7 +48,7 @@ spotBy w c n = record { way = w; calls = c; count = n }
 abbrev pub sightIn : Stand → ℕ → Sight
 sightIn s c = record { way = s .way; calls = c; count = s .count; kind = topAt (s .kinds) (s .count) 9; label = topAt (s .labels) (s .count) 0 }
 
-abbrev pub movedTo : Stand → Move → Stand
+abbrev pub movedTo : Stand → Doing → Stand
 movedTo s m = record { way = m .way; a = m .a; count = m .count; kinds = putIn (s .kinds) (m .slot) (m .kind); labels = putIn (s .labels) (m .slot) (m .label) }
 
 abbrev pub endedIn : ℕ → ℕ → ℕ → ℕ → ℕ → List ℕ → List ℕ → Went

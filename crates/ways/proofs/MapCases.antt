@@ -10,7 +10,7 @@ use lib.ListN.{length, getD, set, length-set, length-replicate, getD-replicate}
 use lib.Seq.{ext-getD, getD-set-same, getD-set-other}
 use Rattle.records.specs.Faults.{word}
 use Rattle.ways.specs.Looks.{operatorAt, lookIn, otherOf, alongOf, gateOf, resumedOf, testOf, actOf, leftAt, wayTo}
-use Rattle.ways.specs.Map.{noEntries, actAt, onwardAt, gateAt, intoAt, firstAt, secondAt, exprAt, entryAt, Maps}
+use Rattle.ways.specs.Map.{noEntries, cellAct, setAct, actAt, onwardAt, gateAt, intoAt, firstAt, secondAt, exprAt, entryAt, Maps}
 
 -- ---- `test_of`, `act_of`
 module _ (k d : ℕ) where
@@ -105,6 +105,26 @@ module _ (tab : List ℕ) (b d : ℕ) where
 
 pub ruleset onwards = (resumed-turn, resumed-on, left-chooses, left-opens, left-tests, left-tests-up, own-chooses, own-opens, own-tests, own-other, onward-is)
 
+-- ---- `cell_act`, `set_act`
+module _ (o : ℕ) where
+  pub cell-adds : o ≡ 0 → 4 ≡ cellAct o
+  cell-adds e = rw (eq-eqb o 0 e)
+
+  pub cell-subtracts : (o ≡ 0 → ⊥) → o ≡ 1 → 12 ≡ cellAct o
+  cell-subtracts n e = rw (ne-eqb o 0 n, eq-eqb o 1 e)
+
+  pub cell-excludes : (o ≡ 0 → ⊥) → (o ≡ 1 → ⊥) → 14 ≡ cellAct o
+  cell-excludes n e = rw (ne-eqb o 0 n, ne-eqb o 1 e)
+
+module _ (f : List ℕ) (at d form : ℕ) (ff : form ≡ getD f (at + 5) 0) where
+  pub set-cell : (r p o : ℕ) → form ≡ 0 → r ≡ cellAct p → p ≡ operatorAt o d → o ≡ getD f (at + 4) 0 → r ≡ setAct f at d
+  set-cell r p o e rr pp oo = rw (← ff, eq-eqb form 0 e, ← oo, ← pp) rr
+
+  pub set-entry : (form ≡ 0 → ⊥) → 6 ≡ setAct f at d
+  set-entry e = rw (← ff, ne-eqb form 0 e)
+
+pub ruleset sets = (cell-adds, cell-subtracts, cell-excludes, set-cell, set-entry)
+
 -- ---- what the file says of a record; w is its place as a number
 module _ (f tab : List ℕ) (b d r w o : ℕ) (ww : w ≡ o) (oo : o ≡ lookIn tab b) where
   pub gate-is : (q d′ : ℕ) → r ≡ gateOf tab q d′ → q ≡ word f (w + 4) → d′ ≡ resumedOf tab b d → r ≡ gateAt f tab b d
@@ -112,13 +132,9 @@ module _ (f tab : List ℕ) (b d r w o : ℕ) (ww : w ≡ o) (oo : o ≡ lookIn 
   gate-is q d′ rr qq dd = rr ∙ rw (qq, ww, oo, dd)
 
   module _ (k : ℕ) (kk : k ≡ lookIn tab (1024 + b)) (e : k ≡ 4) where
-    pub act-cell : (form : ℕ) → form ≡ 0 → form ≡ getD f (w + 5) 0 → 4 ≡ actAt f tab b d
+    pub act-set-at : r ≡ setAct f w d → r ≡ actAt f tab b d
     unfolding actAt
-    act-cell form z ff = let g : form ≡ getD f (lookIn tab b + 5) 0 = rw (ww, oo) at ff in rw (← kk, eq-eqb k 4 e, ← g, eq-eqb form 0 z)
-
-    pub act-entry : (form : ℕ) → (form ≡ 0 → ⊥) → form ≡ getD f (w + 5) 0 → 6 ≡ actAt f tab b d
-    unfolding actAt
-    act-entry form z ff = let g : form ≡ getD f (lookIn tab b + 5) 0 = rw (ww, oo) at ff in rw (← kk, eq-eqb k 4 e, ← g, ne-eqb form 0 z)
+    act-set-at h = let g : r ≡ setAct f (lookIn tab b) d = rw (ww, oo) at h in rw (← kk, eq-eqb k 4 e) g
 
     pub first-set : (x : ℕ) → r ≡ operatorAt x d → x ≡ getD f (w + 4) 0 → r ≡ firstAt f tab b d
     unfolding firstAt
@@ -129,9 +145,18 @@ module _ (f tab : List ℕ) (b d r w o : ℕ) (ww : w ≡ o) (oo : o ≡ lookIn 
     second-set rr = let g : r ≡ word f (lookIn tab b + 6) = rw (ww, oo) at rr in rw (← kk, eq-eqb k 4 e) g
 
 module _ (f tab : List ℕ) (b d r k : ℕ) (kk : k ≡ lookIn tab (1024 + b)) (n4 : k ≡ 4 → ⊥) where
-  pub act-other : r ≡ actOf k d → r ≡ actAt f tab b d
-  unfolding actAt
-  act-other h = rw (← kk, ne-eqb k 4 n4) (h ∙ rw (ne-eqb k 4 n4))
+  module _ (a : ℕ) (aa : a ≡ actOf k d) where
+    pub act-down : a ≡ 3 → d ≡ 0 → 3 ≡ actAt f tab b d
+    unfolding actAt
+    act-down e z = rw (← kk, ← aa, ne-eqb k 4 n4, eq-eqb a 3 e, eq-eqb d 0 z)
+
+    pub act-up : a ≡ 3 → (d ≡ 0 → ⊥) → 9 ≡ actAt f tab b d
+    unfolding actAt
+    act-up e z = rw (← kk, ← aa, ne-eqb k 4 n4, eq-eqb a 3 e, ne-eqb d 0 z)
+
+    pub act-other : (a ≡ 3 → ⊥) → a ≡ actAt f tab b d
+    unfolding actAt
+    act-other e = rw (← kk, ← aa, ne-eqb k 4 n4, ne-eqb a 3 e)
 
   pub first-call : r ≡ gateAt f tab b d → r ≡ firstAt f tab b d
   unfolding firstAt
@@ -159,7 +184,7 @@ module _ (tab : List ℕ) (b o : ℕ) (oo : o ≡ lookIn tab b) where
     unfolding exprAt
     expr-other e kk = rw (← oo, lt-ltb o 32768 h, ← kk, ne-eqb k 4 e)
 
-pub ruleset places = (gate-is, act-cell, act-entry, first-set, second-set, act-other, first-call, second-call, into-is, expr-far, expr-set, expr-other)
+pub ruleset places = (gate-is, act-set-at, first-set, second-set, act-down, act-up, act-other, first-call, second-call, into-is, expr-far, expr-set, expr-other)
 
 -- ---- `entry_at`: by the half section
 module _ (f tab : List ℕ) (j b r : ℕ) where

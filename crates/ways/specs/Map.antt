@@ -12,12 +12,21 @@ use Rattle.ways.specs.Looks.{operatorAt, lookIn, alongOf, gateOf, procAt
 unfoldable pub noEntries : List ℕ
 noEntries = replicate 14336 0
 
--- ---- what a record does; a SET of an entry has an act of its own (6)
-abbrev pub formAt : List ℕ → List ℕ → ℕ → ℕ
-formAt f tab b = getD f (lookIn tab b + 5) 0
+-- ---- what a record does: a SET of a cell adds (4), subtracts (12) or is exclusive (14), one of an entry has an act of its own (6);
+-- a record that returns does it downwards (3) or upwards (9)
+abbrev pub cellAct : ℕ → ℕ
+cellAct o = cond (eqb o 0) 4 (cond (eqb o 1) 12 14)
+
+-- the SET that stands at o
+abbrev pub setAct : List ℕ → ℕ → ℕ → ℕ
+setAct f o d = cond (eqb (getD f (o + 5) 0) 0) (cellAct (operatorAt (getD f (o + 4) 0) d)) 6
+
+-- the act a in a direction
+abbrev pub turnedAct : ℕ → ℕ → ℕ
+turnedAct a d = cond (eqb a 3) (cond (eqb d 0) 3 9) a
 
 unfoldable pub actAt : List ℕ → List ℕ → ℕ → ℕ → ℕ
-actAt f tab b d = cond (eqb (lookIn tab (1024 + b)) 4) (cond (eqb (formAt f tab b) 0) 4 6) (actOf (lookIn tab (1024 + b)) d)
+actAt f tab b d = cond (eqb (lookIn tab (1024 + b)) 4) (setAct f (lookIn tab b) d) (turnedAct (actOf (lookIn tab (1024 + b)) d) d)
 
 -- ---- the way on from record b, where its test does not hold, or does
 unfoldable pub onwardAt : List ℕ → ℕ → ℕ → Bool → ℕ

@@ -13,9 +13,9 @@ use crate::wide;
 use codes::byte;
 use codes::short;
 ghost use mathlib.Core.Path.{_≡_};
-ghost use Prim.Native.Nat.{min};
+ghost use Prim.Native.Nat.{min, _<_};
 ghost use Rattle.ways.specs.Looks.{resumedOf, testOf, actOf, leftAt};
-ghost use Rattle.ways.specs.Map.{onwardAt, gateAt, intoAt, actAt, firstAt, secondAt, exprAt, entryAt, Maps, noEntries};
+ghost use Rattle.ways.specs.Map.{onwardAt, gateAt, intoAt, cellAct, setAct, actAt, firstAt, secondAt, exprAt, entryAt, Maps, noEntries};
 
 // No entry.
 fn none() -> [u16; 14336]
@@ -126,16 +126,40 @@ fn into_at(file: &[u8], table: &[u16; 9344], b: u16, direction: u8) -> u16
     way_to(along(table, d, gate_at(file, table, b, direction)), d)
 }
 
-// What record b does; a SET (4) of an entry has an act of its own (6).
+// What a SET of a cell does: it adds (4), subtracts (12) or is exclusive (14).
+fn cell_act(o: u16) -> u16
+    ensures { λ r. ⌜ r ≡ cellAct o ⌝ }
+{
+    if o == 0 {
+        return 4;
+    }
+    if o == 1 { 12 } else { 14 }
+}
+
+// What the SET at `at` does; one of an entry has an act of its own (6).
+fn set_act(file: &[u8], at: usize, direction: u8) -> u16
+    requires { ⌜ at < 65536 ⌝ }
+    ensures { λ r. ⌜ r ≡ setAct (now (file .entry)) at direction ⌝ }
+{
+    if byte(file, at + 5) == 0 {
+        return cell_act(operator(byte(file, at + 4) as u16, direction));
+    }
+    6
+}
+
+// What record b does; a return is told by its direction: downwards (3), upwards (9).
 fn act_at(file: &[u8], table: &[u16; 9344], b: u16, direction: u8) -> u16
     ensures { λ r. ⌜ r ≡ actAt (now (file .entry)) (now (table .entry)) b direction ⌝ }
 {
     let kind = part(table, 1024, b);
     if kind == 4 {
-        let form = byte(file, wide(offset(table, b)) + 5);
-        return if form == 0 { 4 } else { 6 };
+        return set_act(file, wide(offset(table, b)), direction);
     }
-    act_of(kind, direction)
+    let act = act_of(kind, direction);
+    if act == 3 {
+        return if direction == 0 { 3 } else { 9 };
+    }
+    act
 }
 
 // A call's gate, or a SET's operator.
