@@ -1,13 +1,14 @@
 -- The answers of the functions of src/lib.rt, case by case, over plain numbers and lists. Assumes nothing.
-use mathlib.Core.Path.{_≡_, refl, ap, _∙_}
+use mathlib.Core.Path.{_≡_, refl, sym, ap, _∙_}
 use mathlib.Core.List.{List}
-use mathlib.Core.Bool.{Bool, true, false, Bool·beq as same}
-use Prim.Native.Nat.{ℕ, zero, suc, _+_, _-_, _*_, _/_, _≤_, _<_}
+use mathlib.Core.Bool.{Bool, true, false, cond, Bool·beq as same}
+use Prim.Native.Nat.{ℕ, zero, suc, _+_, _-_, _≤_, _<_}
 use native.Mathlib.Omega.{arith}
-use borrow.Author.Tests.{eq-eqb, ne-eqb, lt-ltb, le-ltb, le-leb, lt-leb}
-use lib.Dec.{eqb}
+use borrow.Author.Tests.{eq-eqb, ne-eqb, lt-ltb, le-ltb, le-leb, lt-leb, eqb-true, eqb-false, leb-true, leb-false}
+use lib.Dec.{eqb, leb}
 use lib.IntN.{ℤ, pos, negsuc}
-use lib.ListN.{getD}
+use lib.ListN.{getD, set}
+use lib.Seq.{set-getD}
 use lib.Signed.{ltZ}
 use mir.Syntax.{w32, w64}
 use mir.Val.{SFits, ofZ, toZ}
@@ -19,10 +20,11 @@ use Rattle.place.specs.Methods.{topAt}
 use Rattle.moves.specs.Stores.{Answer, ok, no, number, reasonOf, Store}
 use Rattle.decide.specs.Sets.{faultOf, Leaves, setEntry}
 use Rattle.ways.specs.Looks.{labelIn}
-use Rattle.decide.specs.Decide.{moreOf, truthOf}
-use Rattle.decide.specs.Ways.{sight, byKind, byLabel, bare, actIn, yesIn, noIn, firstIn, secondIn, exprIn, headIn, moving, refusedIn, keptIn, pushedIn, poppedIn, changedIn, chosenIn, closedIn, againIn, openedIn, repeatedIn, enteredIn, backIn, returnedIn, testedIn, assignedIn, afterSet, setCell, Rules, ruleIn}
+use Rattle.decide.specs.Decide.{moreOf, slotOf, putIn, truthOf}
+use Rattle.decide.specs.Ways.{Sight, Doing, sight, byKind, byLabel, bare, actIn, yesIn, noIn, firstIn, secondIn, exprIn, headIn, told, written, Does, onTo, refusedIn, keptIn, pushedIn, poppedIn, changedIn, chosenIn, closedIn, againIn, openedIn, repeatedIn, enteredIn, backIn, returnedIn, testedIn, assignedIn, Sets, Ruled, afterSet, setCell, cellIn, entryIn, Rules, ruleIn}
 use Rattle.decide.specs.declared.Spot.{Spot}
 use Rattle.decide.specs.declared.Move.{Move}
+use Rattle.place.proofs.Cases.{top-none, top-over, top-here}
 use Rattle.decide.proofs.SetCases.{is-stop, is-value}
 
 abbrev again64 : ℤ → ℤ
@@ -72,69 +74,135 @@ module _ (r : ℤ) (fits : SFits w64 r) (f arr : List ℕ) (cs : List ℤ) (at :
 
 pub ruleset truths = (truth-stop, truth-zero, truth-one)
 
+-- ---- slots
+module _ (s : List ℕ) (i v : ℕ) where
+  pub put-near : i < 1104 → set s i v ≡ putIn s i v
+  unfolding putIn
+  put-near h = rw (lt-ltb i 1104 h)
+
+  pub put-far : 1104 ≤ i → s ≡ putIn s i v
+  unfolding putIn
+  put-far h = rw (le-ltb i 1104 h)
+
+-- the slot of the innermost of n frames
+module _ (s : List ℕ) (n v : ℕ) where
+  pub slot-none : n ≡ 0 → s ≡ putIn s (slotOf n) v
+  slot-none e = rw (eq-eqb n 0 e) (put-far s 1104 v (omega arith))
+
+  module _ (z : n ≡ 0 → ⊥) where
+    pub slot-near : n ≤ 1104 → set s (n - 1) v ≡ putIn s (slotOf n) v
+    slot-near h = rw (ne-eqb n 0 z) (put-near s (n - 1) v (omega arith))
+
+    pub slot-far : 1104 < n → s ≡ putIn s (slotOf n) v
+    slot-far h = rw (ne-eqb n 0 z) (put-far s (n - 1) v (omega arith))
+
+pub ruleset slots = (put-near, put-far, slot-none, slot-near, slot-far)
+
+-- written with what it holds
+same-top : (s : List ℕ) (n : ℕ) → s ≡ putIn s (slotOf n) (topAt s n 0)
+same-top s n = go (eqb n 0) refl (leb n 1104) refl
+  where
+    go : (t : Bool) → eqb n 0 ≡ t → (u : Bool) → leb n 1104 ≡ u → s ≡ putIn s (slotOf n) (topAt s n 0)
+    go true e u h = slot-none s n (topAt s n 0) (eqb-true n 0 e)
+    go false e true h = let k = leb-true n 1104 h in let z = eqb-false n 0 e in sym (sym (slot-near s n (topAt s n 0) z k) ∙ ap (set s (n - 1)) (sym (top-here s n 0 z k)) ∙ set-getD s (n - 1) 0)
+    go false e false h = slot-far s n (topAt s n 0) (eqb-false n 0 e) (leb-false n 1104 h)
+
+-- no slot is written
+unwritten : (s : List ℕ) (v : ℕ) (t : Bool) → s ≡ cond t (putIn s 1104 v) s
+unwritten s v true = put-far s 1104 v (omega arith)
+unwritten s v false = refl
+
 -- ---- the frames
-module _ (s : Spot) (y k l n a : ℕ) (aa : a ≡ labelIn (s .way)) where
-  pub kept-is : moving 0 y a (s .calls) (s .count) 1104 0 0 ≡ keptIn (bare s) y
-  kept-is = rw aa
+module _ (s : Spot) (y n : ℕ) (m : Move) (ks ls : List ℕ) where
+  refuses : (r : ℕ) → m ≡ told (refusedIn (bare s) r) → Does (refusedIn (bare s) r) ks ls m ks ls
+  refuses r e = record { made = e; kinds = unwritten ks 0 (eqb r 0); labels = unwritten ls 0 (eqb r 0) }
 
-  pub pushed-is : n ≡ moreOf (s .count) → moving 0 y a (s .calls) n (s .count) k l ≡ pushedIn (bare s) y k l
-  pushed-is e = rw (aa, e)
+  keeps : m ≡ onTo (bare s) y (s .count) → Does (keptIn (bare s) y) ks ls m ks ls
+  keeps e = record { made = e; kinds = unwritten ks 0 true; labels = unwritten ls 0 true }
 
-  pub popped-is : n ≡ s .count - 1 → moving 0 y a (s .calls) n n 0 0 ≡ poppedIn (bare s) y
-  popped-is e = rw (aa, e)
+  module _ (e : m ≡ onTo (bare s) y n) (ks′ ls′ : List ℕ) where
+    pushes : (k l : ℕ) → (n ≡ moreOf (s .count)) × ((ks′ ≡ putIn ks (s .count) k) × (ls′ ≡ putIn ls (s .count) l)) → Does (pushedIn (bare s) y k l) ks ls m ks′ ls′
+    pushes k l (nn, (kk, ll)) = record { made = rw (← nn) e; kinds = kk; labels = ll }
 
-  pub changed-is : (ls : List ℕ) → n ≡ s .count - 1 → l ≡ topAt ls (s .count) 0 → moving 0 y a (s .calls) (s .count) n k l ≡ changedIn (byLabel s ls) y k
+    pops : (n ≡ s .count - 1) × ((ks′ ≡ putIn ks (slotOf (s .count)) 0) × (ls′ ≡ putIn ls (slotOf (s .count)) 0)) → Does (poppedIn (bare s) y) ks ls m ks′ ls′
+    pops (nn, (kk, ll)) = record { made = rw (← nn) e; kinds = kk; labels = ll }
+
+  changes : (k : ℕ) (ks′ : List ℕ) → m ≡ onTo (bare s) y (s .count) → ks′ ≡ putIn ks (slotOf (s .count)) k → Does (changedIn (byLabel s ls) y k) ks ls m ks′ ls
   unfolding byLabel
-  changed-is ls e ll = rw (aa, e, ll)
+  changes k ks′ e kk = record { made = e; kinds = kk; labels = same-top ls (s .count) }
 
-pub ruleset frames = (kept-is, pushed-is, popped-is, changed-is)
+pub on-is : (s : Spot) (y a n : ℕ) → a ≡ labelIn (s .way) → _≡_ {A = Move} (record { reason = 0; way = y; a = a; calls = s .calls; count = n }) (onTo (bare s) y n)
+on-is s y a n e = rw e
 
--- ---- the acts
-module _ (s : Spot) (v : ℕ) (map : List ℕ) (m : Move) where
-  module _ (next head : ℕ) (hh : head ≡ headIn map (s .way)) where
-    pub chosen-else : v ≡ 0 → m ≡ pushedIn (bare s) next 1 head → next ≡ noIn map (s .way) → m ≡ chosenIn (bare s) v map
-    unfolding chosenIn
-    chosen-else e h n = rw (eq-eqb v 0 e, ← n, ← hh) h
+-- ---- the acts; ks and ls are the slots, ks′ and ls′ afterwards
+module _ (s : Spot) (v : ℕ) (map : List ℕ) (m : Move) (ks ls : List ℕ) where
+  pub chosen-stop : 2 ≤ v → m ≡ told (refusedIn (bare s) v) → Does (chosenIn (bare s) v map) ks ls m ks ls
+  unfolding chosenIn
+  chosen-stop h e = rw (le-leb 2 v h) (refuses s 0 0 m ks ls v e)
 
-    pub chosen-then : (v ≡ 0 → ⊥) → m ≡ pushedIn (bare s) next 0 head → next ≡ yesIn map (s .way) → m ≡ chosenIn (bare s) v map
-    unfolding chosenIn
-    chosen-then e h n = rw (ne-eqb v 0 e, ← n, ← hh) h
+  pub closed-stop : 2 ≤ v → m ≡ told (refusedIn (bare s) v) → Does (closedIn (byKind s ks) v map) ks ls m ks ls
+  unfolding closedIn byKind
+  closed-stop h e = rw (le-leb 2 v h) (refuses s 0 0 m ks ls v e)
 
-  module _ (ks : List ℕ) (k : ℕ) (kk : k ≡ topAt ks (s .count) 9) where
-    pub closed-no : same (eqb v 0) (eqb k 0) ≡ true → m ≡ refusedIn (bare s) 31 → m ≡ closedIn (byKind s ks) v map
+  pub opened-stop : 2 ≤ v → m ≡ told (refusedIn (bare s) v) → Does (openedIn (sight s ks ls) v map) ks ls m ks ls
+  unfolding openedIn sight
+  opened-stop h e = rw (le-leb 2 v h) (refuses s 0 0 m ks ls v e)
+
+  pub repeated-stop : 2 ≤ v → m ≡ told (refusedIn (bare s) v) → Does (repeatedIn (byLabel s ls) v map) ks ls m ks ls
+  unfolding repeatedIn byLabel
+  repeated-stop h e = rw (le-leb 2 v h) (refuses s 0 0 m ks ls v e)
+
+  module _ (low : v < 2) where
+    module _ (next n : ℕ) (e : m ≡ onTo (bare s) next n) (ks′ ls′ : List ℕ) where
+      module _ (head : ℕ) (hh : head ≡ headIn map (s .way)) where
+        pub chosen-else : v ≡ 0 → (n ≡ moreOf (s .count)) × ((ks′ ≡ putIn ks (s .count) 1) × (ls′ ≡ putIn ls (s .count) head)) → next ≡ noIn map (s .way)
+            → Does (chosenIn (bare s) v map) ks ls m ks′ ls′
+        unfolding chosenIn
+        chosen-else z p q = rw (lt-leb 2 v low, eq-eqb v 0 z, ← q, ← hh) (pushes s next n m ks ls e ks′ ls′ 1 head p)
+
+        pub chosen-then : (v ≡ 0 → ⊥) → (n ≡ moreOf (s .count)) × ((ks′ ≡ putIn ks (s .count) 0) × (ls′ ≡ putIn ls (s .count) head)) → next ≡ yesIn map (s .way)
+            → Does (chosenIn (bare s) v map) ks ls m ks′ ls′
+        unfolding chosenIn
+        chosen-then z p q = rw (lt-leb 2 v low, ne-eqb v 0 z, ← q, ← hh) (pushes s next n m ks ls e ks′ ls′ 0 head p)
+
+      pub closed-yes : (k : ℕ) → k ≡ topAt ks (s .count) 9 → same (eqb v 0) (eqb k 0) ≡ false
+          → (n ≡ s .count - 1) × ((ks′ ≡ putIn ks (slotOf (s .count)) 0) × (ls′ ≡ putIn ls (slotOf (s .count)) 0)) → next ≡ yesIn map (s .way)
+          → Does (closedIn (byKind s ks) v map) ks ls m ks′ ls′
+      unfolding closedIn byKind
+      closed-yes k kk t p q = rw (lt-leb 2 v low, ← kk, t, ← q) (pops s next n m ks ls e ks′ ls′ p)
+
+      pub repeated-true : (v ≡ 0 → ⊥) → (n ≡ s .count - 1) × ((ks′ ≡ putIn ks (slotOf (s .count)) 0) × (ls′ ≡ putIn ls (slotOf (s .count)) 0)) → next ≡ yesIn map (s .way)
+          → Does (repeatedIn (byLabel s ls) v map) ks ls m ks′ ls′
+      unfolding repeatedIn byLabel
+      repeated-true z p q = rw (lt-leb 2 v low, ne-eqb v 0 z, ← q) (pops s next n m ks ls e ks′ ls′ p)
+
+      pub opened-true : (head : ℕ) → head ≡ headIn map (s .way) → (g : Bool) → g ≡ againIn (sight s ks ls) head → g ≡ false → (v ≡ 0 → ⊥)
+          → (n ≡ moreOf (s .count)) × ((ks′ ≡ putIn ks (s .count) 2) × (ls′ ≡ putIn ls (s .count) head)) → next ≡ yesIn map (s .way) → Does (openedIn (sight s ks ls) v map) ks ls m ks′ ls′
+      unfolding openedIn sight
+      opened-true head hh g gg t z p q = rw (lt-leb 2 v low, ← hh, ← gg, t, ne-eqb v 0 z, ← q) (pushes s next n m ks ls e ks′ ls′ 2 head p)
+
+    pub closed-no : (k : ℕ) → k ≡ topAt ks (s .count) 9 → same (eqb v 0) (eqb k 0) ≡ true → m ≡ told (refusedIn (bare s) 31) → Does (closedIn (byKind s ks) v map) ks ls m ks ls
     unfolding closedIn byKind
-    closed-no t h = rw (← kk, t) h
+    closed-no k kk t e = rw (lt-leb 2 v low, ← kk, t) (refuses s 0 0 m ks ls 31 e)
 
-    pub closed-yes : same (eqb v 0) (eqb k 0) ≡ false → (next : ℕ) → m ≡ poppedIn (bare s) next → next ≡ yesIn map (s .way) → m ≡ closedIn (byKind s ks) v map
-    unfolding closedIn byKind
-    closed-yes t next h n = rw (← kk, t, ← n) h
+    module _ (next : ℕ) (e : m ≡ onTo (bare s) next (s .count)) (ks′ : List ℕ) where
+      pub repeated-false : v ≡ 0 → ks′ ≡ putIn ks (slotOf (s .count)) 3 → next ≡ noIn map (s .way) → Does (repeatedIn (byLabel s ls) v map) ks ls m ks′ ls
+      unfolding repeatedIn byLabel
+      repeated-false z kk q = rw (lt-leb 2 v low, eq-eqb v 0 z) (rw q at (changes s next 0 m ks ls 3 ks′ e kk))
 
-  module _ (ks ls : List ℕ) (next head : ℕ) (g : Bool) (gg : g ≡ againIn (sight s ks ls) head) (hh : head ≡ headIn map (s .way))
-      (nn : next ≡ yesIn map (s .way)) where
-    pub opened-again : g ≡ true → v ≡ 0 → m ≡ changedIn (byLabel s ls) next 2 → m ≡ openedIn (sight s ks ls) v map
-    unfolding openedIn sight byLabel
-    opened-again t e h = rw (← hh, ← gg, t, eq-eqb v 0 e, ← nn) h
+      pub opened-again : (head : ℕ) → head ≡ headIn map (s .way) → (g : Bool) → g ≡ againIn (sight s ks ls) head → g ≡ true → v ≡ 0
+          → ks′ ≡ putIn ks (slotOf (s .count)) 2 → next ≡ yesIn map (s .way) → Does (openedIn (sight s ks ls) v map) ks ls m ks′ ls
+      unfolding openedIn sight byLabel
+      opened-again head hh g gg t z kk q = rw (lt-leb 2 v low, ← hh, ← gg, t, eq-eqb v 0 z, ← q) (changes s next 0 m ks ls 2 ks′ e kk)
 
-    pub opened-wrong : g ≡ true → (v ≡ 0 → ⊥) → m ≡ refusedIn (bare s) 31 → m ≡ openedIn (sight s ks ls) v map
-    unfolding openedIn sight
-    opened-wrong t e h = rw (← hh, ← gg, t, ne-eqb v 0 e) h
+    module _ (head : ℕ) (hh : head ≡ headIn map (s .way)) (g : Bool) (gg : g ≡ againIn (sight s ks ls) head) (e : m ≡ told (refusedIn (bare s) 31)) where
+      pub opened-wrong : g ≡ true → (v ≡ 0 → ⊥) → Does (openedIn (sight s ks ls) v map) ks ls m ks ls
+      unfolding openedIn sight
+      opened-wrong t z = rw (lt-leb 2 v low, ← hh, ← gg, t, ne-eqb v 0 z) (refuses s 0 0 m ks ls 31 e)
 
-    pub opened-false : g ≡ false → v ≡ 0 → m ≡ refusedIn (bare s) 31 → m ≡ openedIn (sight s ks ls) v map
-    unfolding openedIn sight
-    opened-false t e h = rw (← hh, ← gg, t, eq-eqb v 0 e) h
-
-    pub opened-true : g ≡ false → (v ≡ 0 → ⊥) → m ≡ pushedIn (bare s) next 2 head → m ≡ openedIn (sight s ks ls) v map
-    unfolding openedIn sight
-    opened-true t e h = rw (← hh, ← gg, t, ne-eqb v 0 e, ← nn) h
-
-  module _ (ls : List ℕ) (next : ℕ) where
-    pub repeated-false : v ≡ 0 → m ≡ changedIn (byLabel s ls) next 3 → next ≡ noIn map (s .way) → m ≡ repeatedIn (byLabel s ls) v map
-    unfolding repeatedIn byLabel
-    repeated-false e h n = rw (eq-eqb v 0 e, ← n) h
-
-    pub repeated-true : (v ≡ 0 → ⊥) → m ≡ poppedIn (bare s) next → next ≡ yesIn map (s .way) → m ≡ repeatedIn (byLabel s ls) v map
-    unfolding repeatedIn byLabel
-    repeated-true e h n = rw (ne-eqb v 0 e, ← n) h
+      pub opened-false : g ≡ false → v ≡ 0 → Does (openedIn (sight s ks ls) v map) ks ls m ks ls
+      unfolding openedIn sight
+      opened-false t z = rw (lt-leb 2 v low, ← hh, ← gg, t, eq-eqb v 0 z) (refuses s 0 0 m ks ls 31 e)
 
 module _ (s : Spot) (ks ls : List ℕ) (h k : ℕ) where
   pub again-yes : (l : ℕ) → k ≡ 3 → k ≡ topAt ks (s .count) 9 → l ≡ topAt ls (s .count) 0 → eqb l h ≡ againIn (sight s ks ls) h
@@ -145,150 +213,173 @@ module _ (s : Spot) (ks ls : List ℕ) (h k : ℕ) where
   unfolding sight
   again-no e kk = rw (← kk, ne-eqb k 3 e)
 
-pub ruleset acts = (chosen-else, chosen-then, closed-no, closed-yes, opened-again, opened-wrong, opened-false, opened-true, repeated-false, repeated-true, again-yes, again-no)
+pub ruleset acts = (chosen-stop, closed-stop, opened-stop, repeated-stop, chosen-else, chosen-then, closed-yes, closed-no, repeated-true, repeated-false, opened-true, opened-again, opened-wrong, opened-false, again-yes, again-no)
 
 -- ---- calls and returns
-module _ (s : Spot) (map : List ℕ) where
-  pub entered-no : (m : Move) → 64 ≤ s .calls → m ≡ refusedIn (bare s) 34 → m ≡ enteredIn (bare s) map
+module _ (s : Spot) (map : List ℕ) (m : Move) (ks ls : List ℕ) where
+  pub entered-no : 64 ≤ s .calls → m ≡ told (refusedIn (bare s) 34) → Does (enteredIn (bare s) map) ks ls m ks ls
   unfolding enteredIn
-  entered-no m h e = rw (le-leb 64 (s .calls) h) e
+  entered-no h e = rw (le-leb 64 (s .calls) h) (refuses s 0 0 m ks ls 34 e)
 
-  pub entered-yes : (n a l w x : ℕ) → s .calls < 64 → n ≡ moreOf (s .count) → a ≡ firstIn map (s .way) → l ≡ labelIn (s .way) → w ≡ x → x ≡ secondIn map (s .way)
-      → moving 0 w a (s .calls + 1) n (s .count) 4 l ≡ enteredIn (bare s) map
-  unfolding enteredIn
-  entered-yes n a l w x h nn aa ll ww xx = rw (lt-leb 64 (s .calls) h, nn, aa, ll, ww, xx)
-
-  pub back-is : (l x w n : ℕ) → w ≡ yesIn map (x + s .way / 1024 * 1024) → x ≡ l → n ≡ s .count - 1
-      → moving 0 w l (s .calls - 1) n n 0 0 ≡ backIn (bare s) l map
-  back-is l x w n ww xx nn = rw (ww, xx, nn)
-
-  module _ (ls : List ℕ) (m : Move) where
-    pub returned-no : s .calls ≡ 0 → m ≡ refusedIn (bare s) 30 → m ≡ returnedIn (byLabel s ls) map
+  module _ (side : ℕ) where
+    pub returned-no : s .calls ≡ 0 → m ≡ told (refusedIn (bare s) 30) → Does (returnedIn (byLabel s ls) side map) ks ls m ks ls
     unfolding returnedIn byLabel
-    returned-no h e = rw (eq-eqb (s .calls) 0 h) e
+    returned-no h e = rw (eq-eqb (s .calls) 0 h) (refuses s 0 0 m ks ls 30 e)
 
-    module _ (nz : s .calls ≡ 0 → ⊥) (l : ℕ) where
-      pub returned-far : 1024 ≤ l → m ≡ refusedIn (bare s) 21 → l ≡ topAt ls (s .count) 0 → m ≡ returnedIn (byLabel s ls) map
+    module _ (nz : s .calls ≡ 0 → ⊥) (l : ℕ) (ll : l ≡ topAt ls (s .count) 0) where
+      pub returned-far : 1024 ≤ l → m ≡ told (refusedIn (bare s) 21) → Does (returnedIn (byLabel s ls) side map) ks ls m ks ls
       unfolding returnedIn byLabel
-      returned-far h e ll = rw (ne-eqb (s .calls) 0 nz, ← ll, le-ltb l 1024 h) e
+      returned-far h e = rw (ne-eqb (s .calls) 0 nz, ← ll, le-ltb l 1024 h) (refuses s 0 0 m ks ls 21 e)
 
-      pub returned-on : l < 1024 → m ≡ backIn (bare s) l map → l ≡ topAt ls (s .count) 0 → m ≡ returnedIn (byLabel s ls) map
+      pub returned-on : l < 1024 → (ks′ ls′ : List ℕ) → Does (backIn (bare s) l side map) ks ls m ks′ ls′ → Does (returnedIn (byLabel s ls) side map) ks ls m ks′ ls′
       unfolding returnedIn byLabel
-      returned-on h e ll = rw (ne-eqb (s .calls) 0 nz, ← ll, lt-ltb l 1024 h) e
+      returned-on h ks′ ls′ d = rw (ne-eqb (s .calls) 0 nz, ← ll, lt-ltb l 1024 h) d
 
-  module _ (n : ℕ) (m : Move) where
-    pub assigned-done : (next : ℕ) → n ≡ 0 → m ≡ keptIn (bare s) next → next ≡ yesIn map (s .way) → m ≡ assignedIn (bare s) n map
-    assigned-done next e h k = rw (eq-eqb n 0 e, ← k) h
+module _ (s : Spot) (map ks ls ks′ ls′ : List ℕ) where
+  pub entered-yes : (n a l w x : ℕ) → s .calls < 64 → (n ≡ moreOf (s .count)) × ((ks′ ≡ putIn ks (s .count) 4) × (ls′ ≡ putIn ls (s .count) l)) → a ≡ firstIn map (s .way)
+      → l ≡ labelIn (s .way) → w ≡ x → x ≡ secondIn map (s .way)
+      → Does (enteredIn (bare s) map) ks ls (record { reason = 0; way = w; a = a; calls = s .calls + 1; count = n }) ks′ ls′
+  unfolding enteredIn
+  entered-yes n a l w x h (nn, (kk, ll)) aa el ww xx =
+      rw (lt-leb 64 (s .calls) h, ← el) (record { made = rw (nn, aa, ww, xx); kinds = kk; labels = ll })
 
-    pub assigned-not : (n ≡ 0 → ⊥) → m ≡ refusedIn (bare s) n → m ≡ assignedIn (bare s) n map
-    assigned-not e h = rw (ne-eqb n 0 e) h
+  pub back-is : (l x side w n : ℕ) → w ≡ yesIn map (x + side) → x ≡ l → (n ≡ s .count - 1) × ((ks′ ≡ putIn ks (slotOf (s .count)) 0) × (ls′ ≡ putIn ls (slotOf (s .count)) 0))
+      → Does (backIn (bare s) l side map) ks ls (record { reason = 0; way = w; a = l; calls = s .calls - 1; count = n }) ks′ ls′
+  back-is l x side w n ww xx (nn, (kk, ll)) = record { made = rw (ww, xx, nn); kinds = kk; labels = ll }
 
-pub ruleset calls = (entered-no, entered-yes, back-is, returned-no, returned-far, returned-on, assigned-done, assigned-not)
+pub ruleset calls = (entered-no, entered-yes, back-is, returned-no, returned-far, returned-on)
 
--- ---- what asks for less than the whole frame answers the same of it
-module _ (s : Spot) (ks ls : List ℕ) (map : List ℕ) where
-  chosen-same : (v : ℕ) → chosenIn (bare s) v map ≡ chosenIn (sight s ks ls) v map
-  unfolding chosenIn sight
-  chosen-same v = refl
+-- ---- a SET
+module _ (s : Spot) (map : List ℕ) (n : ℕ) (m : Move) where
+  pub assigned-done : (next : ℕ) → n ≡ 0 → m ≡ onTo (bare s) next (s .count) → next ≡ yesIn map (s .way) → m ≡ told (assignedIn (bare s) n map)
+  assigned-done next e h k = rw (eq-eqb n 0 e, ← k) h
 
-  closed-same : (v : ℕ) → closedIn (byKind s ks) v map ≡ closedIn (sight s ks ls) v map
-  unfolding closedIn byKind sight
-  closed-same v = refl
+  pub assigned-not : (n ≡ 0 → ⊥) → m ≡ told (refusedIn (bare s) n) → m ≡ told (assignedIn (bare s) n map)
+  assigned-not e h = rw (ne-eqb n 0 e) h
 
-  repeated-same : (v : ℕ) → repeatedIn (byLabel s ls) v map ≡ repeatedIn (sight s ks ls) v map
-  unfolding repeatedIn byLabel sight
-  repeated-same v = refl
+  module _ (f arr : List ℕ) (σ τ : Store) (h : m ≡ told (assignedIn (bare s) n map)) where
+    after : (x : Answer Store) → Leaves x σ n τ → Sets (afterSet (bare s) map σ x) m τ
+    after (ok σ′) l = record { made = h ∙ ap (λ n. told (assignedIn (bare s) n map)) (l .0); left = l .1 }
+    after (no q) l = record { made = h ∙ ap (λ n. told (assignedIn (bare s) n map)) (l .0); left = l .1 }
 
-  returned-same : returnedIn (byLabel s ls) map ≡ returnedIn (sight s ks ls) map
-  unfolding returnedIn byLabel sight
-  returned-same = refl
+    module _ (at o t i k : ℕ) (ai : at ≡ i) (ii : i ≡ exprIn map (s .way)) (tk : t ≡ k) (kk : k ≡ secondIn map (s .way)) where
+      pub cell-is : Leaves (setCell f at t o arr σ) σ n τ → Sets (cellIn f map arr (bare s) σ o) m τ
+      unfolding cellIn
+      cell-is l = rw (← ii, ← ai, ← kk, ← tk) (after (setCell f at t o arr σ) l)
 
-  entered-same : enteredIn (bare s) map ≡ enteredIn (sight s ks ls) map
-  unfolding enteredIn sight
-  entered-same = refl
+      pub entry-set : (j : ℕ) → o ≡ j → j ≡ firstIn map (s .way) → Leaves (setEntry f at t o arr σ) σ n τ → Sets (entryIn f map arr (bare s) σ) m τ
+      unfolding entryIn
+      entry-set j oj jj l = rw (← ii, ← ai, ← kk, ← tk, ← jj, ← oj) (after (setEntry f at t o arr σ) l)
 
--- ---- `tested`
-module _ (s : Spot) (ks ls : List ℕ) (a v : ℕ) (map : List ℕ) (m : Move) where
+pub ruleset sets = (assigned-done, assigned-not, cell-is, entry-set)
+
+-- ---- `tested`; what asks for less than the whole frame answers the same of it
+module _ (s : Spot) (f arr map : List ℕ) (σ : Store) (m : Move) (ks ls ks′ ls′ : List ℕ) (a v at i : ℕ)
+    (vv : v ≡ truthOf (worthAt arr σ (within 32768 f at))) (ai : at ≡ i) (ii : i ≡ exprIn map (s .way)) where
   abbrev Tells : Type 0
-  Tells = m ≡ testedIn (sight s ks ls) a v map
+  Tells = Does (testedIn (sight s ks ls) a (truthOf (worthAt arr σ (within 32768 f (exprIn map (s .way))))) map) ks ls m ks′ ls′
 
-  pub tested-stop : 2 ≤ v → m ≡ refusedIn (bare s) v → Tells
-  unfolding testedIn sight
-  tested-stop h e = rw (le-leb 2 v h) e
+  pub tested-5 : a ≡ 5 → Does (chosenIn (bare s) v map) ks ls m ks′ ls′ → Tells
+  unfolding testedIn chosenIn sight
+  tested-5 e d = rw (← ii, ← ai, ← vv, eq-eqb a 5 e) d
 
-  module _ (h : v < 2) where
-    pub tested-5 : a ≡ 5 → m ≡ chosenIn (bare s) v map → Tells
-    unfolding testedIn
-    tested-5 e x = rw (lt-leb 2 v h, eq-eqb a 5 e) (x ∙ chosen-same s ks ls map v)
+  module _ (n5 : a ≡ 5 → ⊥) where
+    pub tested-7 : a ≡ 7 → Does (closedIn (byKind s ks) v map) ks ls m ks′ ls′ → Tells
+    unfolding testedIn closedIn byKind sight
+    tested-7 e d = rw (← ii, ← ai, ← vv, ne-eqb a 5 n5, eq-eqb a 7 e) d
 
-    module _ (n5 : a ≡ 5 → ⊥) where
-      pub tested-7 : a ≡ 7 → m ≡ closedIn (byKind s ks) v map → Tells
+    module _ (n7 : a ≡ 7 → ⊥) where
+      pub tested-8 : a ≡ 8 → Does (openedIn (sight s ks ls) v map) ks ls m ks′ ls′ → Tells
       unfolding testedIn
-      tested-7 e x = rw (lt-leb 2 v h, ne-eqb a 5 n5, eq-eqb a 7 e) (x ∙ closed-same s ks ls map v)
+      tested-8 e d = rw (← ii, ← ai, ← vv, ne-eqb a 5 n5, ne-eqb a 7 n7, eq-eqb a 8 e) d
 
-      module _ (n7 : a ≡ 7 → ⊥) where
-        pub tested-8 : a ≡ 8 → m ≡ openedIn (sight s ks ls) v map → Tells
-        unfolding testedIn
-        tested-8 e x = rw (lt-leb 2 v h, ne-eqb a 5 n5, ne-eqb a 7 n7, eq-eqb a 8 e) x
+      pub tested-10 : (a ≡ 8 → ⊥) → Does (repeatedIn (byLabel s ls) v map) ks ls m ks′ ls′ → Tells
+      unfolding testedIn repeatedIn byLabel sight
+      tested-10 n8 d = rw (← ii, ← ai, ← vv, ne-eqb a 5 n5, ne-eqb a 7 n7, ne-eqb a 8 n8) d
 
-        pub tested-10 : (a ≡ 8 → ⊥) → m ≡ repeatedIn (byLabel s ls) v map → Tells
-        unfolding testedIn
-        tested-10 n8 x = rw (lt-leb 2 v h, ne-eqb a 5 n5, ne-eqb a 7 n7, ne-eqb a 8 n8) (x ∙ repeated-same s ks ls map v)
-
-pub ruleset tests = (tested-stop, tested-5, tested-7, tested-8, tested-10)
+pub ruleset tests = (tested-5, tested-7, tested-8, tested-10)
 
 -- ---- `decide`, by what the record met does
+-- a SET writes no slot
+module _ (s : Sight) (y n v : ℕ) (ks : List ℕ) where
+  slotless : (t : Bool) → ks ≡ written (cond t (keptIn s y) (refusedIn s n)) ks v
+  slotless true = unwritten ks v true
+  slotless false = unwritten ks v (eqb n 0)
+
 module _ (f map arr : List ℕ) (s : Spot) (ks ls : List ℕ) (σ : Store) (m : Move) where
-  abbrev Does : Store → Type 0
-  Does τ = Rules (ruleIn f map arr (sight s ks ls) σ) m τ
+  abbrev Decides : List ℕ → List ℕ → Store → Type 0
+  Decides ks′ ls′ τ = Rules (ruleIn f map arr (sight s ks ls) σ) ks ls m ks′ ls′ τ
 
-  pub does-far : 2048 ≤ s .way → m ≡ refusedIn (bare s) 21 → Does σ
+  pub does-far : 2048 ≤ s .way → m ≡ told (refusedIn (bare s) 21) → Decides ks ls σ
   unfolding ruleIn sight
-  does-far h e = rw (le-ltb (s .way) 2048 h) (record { made = e; left = refl })
+  does-far h e = rw (le-ltb (s .way) 2048 h) (record { does = refuses s 0 0 m ks ls 21 e; left = refl })
 
-  after : (n : ℕ) (τ : Store) (x : Answer Store) → m ≡ assignedIn (bare s) n map → Leaves x σ n τ → Rules (afterSet (sight s ks ls) map σ x) m τ
+  set-rules : (τ : Store) (x : Answer Store) → Sets (afterSet (bare s) map σ x) m τ → Rules (afterSet (sight s ks ls) map σ x) ks ls m ks ls τ
   unfolding sight
-  after n τ (ok σ′) h l = record { made = h ∙ ap (λ n. assignedIn (bare s) n map) (l .0); left = l .1 }
-  after n τ (no q) h l = record { made = h ∙ ap (λ n. assignedIn (bare s) n map) (l .0); left = l .1 }
+  set-rules τ (ok σ′) d = record { does = record { made = d .made; kinds = unwritten ks 0 true; labels = unwritten ls 0 true }; left = d .left }
+  set-rules τ (no q) d =
+      record {
+        does = record { made = d .made; kinds = slotless (bare s) (yesIn map (s .way)) (number q) _ ks (eqb (number q) 0); labels = slotless (bare s) (yesIn map (s .way)) (number q) _ ls (eqb (number q) 0) };
+        left = d .left;
+      }
 
   module _ (a : ℕ) (aa : a ≡ actIn map (s .way)) (near : s .way < 2048) where
-    -- its place, operator and target, each by the entry that it was read from
-    module _ (n at o t : ℕ) (τ : Store) (i j k : ℕ) where
-      pub does-cell : a ≡ 4 → m ≡ assignedIn (bare s) n map → Leaves (setCell f at t o arr σ) σ n τ → at ≡ i → i ≡ exprIn map (s .way) → o ≡ j → j ≡ firstIn map (s .way)
-          → t ≡ k → k ≡ secondIn map (s .way) → Does τ
-      unfolding ruleIn sight
-      does-cell e h l ai ii oj jj tk kk =
-          rw (lt-ltb (s .way) 2048 near, ← aa, eq-eqb a 4 e, ← ii, ← ai, ← jj, ← oj, ← kk, ← tk) (after n τ (setCell f at t o arr σ) h l)
+    pub does-add : (τ : Store) → a ≡ 4 → Sets (cellIn f map arr (bare s) σ 0) m τ → Decides ks ls τ
+    unfolding ruleIn cellIn sight
+    does-add τ e d = rw (lt-ltb (s .way) 2048 near, ← aa, eq-eqb a 4 e) (set-rules τ (setCell f (exprIn map (s .way)) (secondIn map (s .way)) 0 arr σ) d)
 
-      pub does-entry : (a ≡ 4 → ⊥) → a ≡ 6 → m ≡ assignedIn (bare s) n map → Leaves (setEntry f at t o arr σ) σ n τ → at ≡ i → i ≡ exprIn map (s .way) → o ≡ j
-          → j ≡ firstIn map (s .way) → t ≡ k → k ≡ secondIn map (s .way) → Does τ
-      unfolding ruleIn sight
-      does-entry n4 e h l ai ii oj jj tk kk =
-          rw (lt-ltb (s .way) 2048 near, ← aa, ne-eqb a 4 n4, eq-eqb a 6 e, ← ii, ← ai, ← jj, ← oj, ← kk, ← tk) (after n τ (setEntry f at t o arr σ) h l)
+    module _ (n4 : a ≡ 4 → ⊥) where
+      pub does-subtract : (τ : Store) → a ≡ 12 → Sets (cellIn f map arr (bare s) σ 1) m τ → Decides ks ls τ
+      unfolding ruleIn cellIn sight
+      does-subtract τ e d =
+          rw (lt-ltb (s .way) 2048 near, ← aa, ne-eqb a 4 n4, eq-eqb a 12 e) (set-rules τ (setCell f (exprIn map (s .way)) (secondIn map (s .way)) 1 arr σ) d)
 
-    module _ (n4 : a ≡ 4 → ⊥) (n6 : a ≡ 6 → ⊥) where
-      pub does-skip : (next : ℕ) → a ≡ 13 → m ≡ keptIn (bare s) next → next ≡ yesIn map (s .way) → Does σ
-      unfolding ruleIn sight
-      does-skip next e h n = rw (lt-ltb (s .way) 2048 near, ← aa, ne-eqb a 4 n4, ne-eqb a 6 n6, eq-eqb a 13 e, ← n) (record { made = h; left = refl })
+      module _ (n12 : a ≡ 12 → ⊥) where
+        pub does-exclude : (τ : Store) → a ≡ 14 → Sets (cellIn f map arr (bare s) σ 2) m τ → Decides ks ls τ
+        unfolding ruleIn cellIn sight
+        does-exclude τ e d =
+            rw (lt-ltb (s .way) 2048 near, ← aa, ne-eqb a 4 n4, ne-eqb a 12 n12, eq-eqb a 14 e)
+            (set-rules τ (setCell f (exprIn map (s .way)) (secondIn map (s .way)) 2 arr σ) d)
 
-      module _ (n13 : a ≡ 13 → ⊥) where
-        pub does-call : a ≡ 11 → m ≡ enteredIn (bare s) map → Does σ
-        unfolding ruleIn sight
-        does-call e h =
-            rw (lt-ltb (s .way) 2048 near, ← aa, ne-eqb a 4 n4, ne-eqb a 6 n6, ne-eqb a 13 n13, eq-eqb a 11 e) (record { made = h ∙ entered-same s ks ls map; left = refl })
+        module _ (n14 : a ≡ 14 → ⊥) where
+          pub does-entry : (τ : Store) → a ≡ 6 → Sets (entryIn f map arr (bare s) σ) m τ → Decides ks ls τ
+          unfolding ruleIn entryIn sight
+          does-entry τ e d =
+              rw (lt-ltb (s .way) 2048 near, ← aa, ne-eqb a 4 n4, ne-eqb a 12 n12, ne-eqb a 14 n14, eq-eqb a 6 e)
+              (set-rules τ (setEntry f (exprIn map (s .way)) (secondIn map (s .way)) (firstIn map (s .way)) arr σ) d)
 
-        module _ (n11 : a ≡ 11 → ⊥) where
-          pub does-return : a ≡ 3 → m ≡ returnedIn (byLabel s ls) map → Does σ
-          unfolding ruleIn sight
-          does-return e h =
-              rw (lt-ltb (s .way) 2048 near, ← aa, ne-eqb a 4 n4, ne-eqb a 6 n6, ne-eqb a 13 n13, ne-eqb a 11 n11, eq-eqb a 3 e)
-              (record { made = h ∙ returned-same s ks ls map; left = refl })
+          module _ (n6 : a ≡ 6 → ⊥) where
+            pub does-skip : (next : ℕ) → a ≡ 13 → m ≡ onTo (bare s) next (s .count) → next ≡ yesIn map (s .way) → Decides ks ls σ
+            unfolding ruleIn sight
+            does-skip next e h n =
+                rw (lt-ltb (s .way) 2048 near, ← aa, ne-eqb a 4 n4, ne-eqb a 12 n12, ne-eqb a 14 n14, ne-eqb a 6 n6, eq-eqb a 13 e, ← n)
+                (record { does = keeps s next 0 m ks ls h; left = refl })
 
-          pub does-test : (v at i : ℕ) → (a ≡ 3 → ⊥) → m ≡ testedIn (sight s ks ls) a v map → v ≡ truthOf (worthAt arr σ (within 32768 f at)) → at ≡ i
-              → i ≡ exprIn map (s .way) → Does σ
-          unfolding ruleIn sight
-          does-test v at i n3 h vv ai ii =
-              rw (lt-ltb (s .way) 2048 near, ← aa, ne-eqb a 4 n4, ne-eqb a 6 n6, ne-eqb a 13 n13, ne-eqb a 11 n11, ne-eqb a 3 n3, ← ii, ← ai, ← vv)
-              (record { made = h; left = refl })
+            module _ (n13 : a ≡ 13 → ⊥) (ks′ ls′ : List ℕ) where
+              pub does-call : a ≡ 11 → Does (enteredIn (bare s) map) ks ls m ks′ ls′ → Decides ks′ ls′ σ
+              unfolding ruleIn enteredIn sight
+              does-call e d =
+                  rw (lt-ltb (s .way) 2048 near, ← aa, ne-eqb a 4 n4, ne-eqb a 12 n12, ne-eqb a 14 n14, ne-eqb a 6 n6, ne-eqb a 13 n13, eq-eqb a 11 e)
+                  (record { does = d; left = refl })
 
-pub ruleset rules = (does-far, does-cell, does-entry, does-skip, does-call, does-return, does-test)
+              module _ (n11 : a ≡ 11 → ⊥) where
+                pub does-down : a ≡ 3 → Does (returnedIn (byLabel s ls) 0 map) ks ls m ks′ ls′ → Decides ks′ ls′ σ
+                unfolding ruleIn returnedIn byLabel sight
+                does-down e d =
+                    rw (lt-ltb (s .way) 2048 near, ← aa, ne-eqb a 4 n4, ne-eqb a 12 n12, ne-eqb a 14 n14, ne-eqb a 6 n6, ne-eqb a 13 n13, ne-eqb a 11 n11, eq-eqb a 3 e)
+                    (record { does = d; left = refl })
+
+                module _ (n3 : a ≡ 3 → ⊥) where
+                  pub does-up : a ≡ 9 → Does (returnedIn (byLabel s ls) 1024 map) ks ls m ks′ ls′ → Decides ks′ ls′ σ
+                  unfolding ruleIn returnedIn byLabel sight
+                  does-up e d =
+                      rw (lt-ltb (s .way) 2048 near, ← aa, ne-eqb a 4 n4, ne-eqb a 12 n12, ne-eqb a 14 n14, ne-eqb a 6 n6, ne-eqb a 13 n13, ne-eqb a 11 n11, ne-eqb a 3 n3, eq-eqb a 9 e)
+                      (record { does = d; left = refl })
+
+                  pub does-test : (a ≡ 9 → ⊥) → Does (testedIn (sight s ks ls) a (truthOf (worthAt arr σ (within 32768 f (exprIn map (s .way))))) map) ks ls m ks′ ls′ → Decides ks′ ls′ σ
+                  unfolding ruleIn sight
+                  does-test n9 d =
+                      rw (lt-ltb (s .way) 2048 near, ← aa, ne-eqb a 4 n4, ne-eqb a 12 n12, ne-eqb a 14 n14, ne-eqb a 6 n6, ne-eqb a 13 n13, ne-eqb a 11 n11, ne-eqb a 3 n3, ne-eqb a 9 n9)
+                      (record { does = d; left = refl })
+
+pub ruleset rules = (does-far, does-add, does-subtract, does-exclude, does-entry, does-skip, does-call, does-down, does-up, does-test)

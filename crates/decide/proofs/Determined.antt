@@ -5,7 +5,8 @@ use mathlib.Core.Path.{_≡_, sym, _∙_}
 use contract.Lifetimes.{Lfts}
 use Rattle.decide.proofs.decide.Reads as decide
 
--- the answer, and the store afterwards
+-- the answer, and afterwards the slots and the store
 pub decide-determined : (κs : Lfts 6) (a : _) (r r′ : _) (s s′ : _) → decide.Post κs a r s → decide.Post κs a r′ s′
-    → (r ≡ r′) × (s .1 .1 .1 .1 .1 .1 .0 .now ≡ s′ .1 .1 .1 .1 .1 .1 .0 .now)
-decide-determined κs a r r′ s s′ p q = (p .made ∙ sym (q .made), p .left ∙ sym (q .left))
+    → (r ≡ r′) × (s .1 .0 .now ≡ s′ .1 .0 .now) × (s .1 .1 .0 .now ≡ s′ .1 .1 .0 .now) × (s .1 .1 .1 .1 .1 .1 .0 .now ≡ s′ .1 .1 .1 .1 .1 .1 .0 .now)
+decide-determined κs a r r′ s s′ p q =
+    (p .does .made ∙ sym (q .does .made), p .does .kinds ∙ sym (q .does .kinds), p .does .labels ∙ sym (q .does .labels), p .left ∙ sym (q .left))

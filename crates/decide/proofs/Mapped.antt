@@ -1,10 +1,10 @@
 -- The decision by the map is the decision by the table. Assumes nothing.
 use mathlib.Core.Path.{_≡_, refl, sym, ap, _∙_}
 use mathlib.Core.List.{List}
-use mathlib.Core.Bool.{Bool, true, false, cond, Bool·beq as same}
-use Prim.Native.Nat.{ℕ, zero, suc, _+_, _*_, _/_, _%_, _≤_, _<_}
+use mathlib.Core.Bool.{Bool, true, false, true≢false, cond, Bool·beq as same}
+use Prim.Native.Nat.{ℕ, zero, suc, _+_, _*_, _%_, _≤_, _<_}
 use native.Mathlib.Omega.{arith}
-use borrow.Author.Tests.{lt-ltb, eqb-true}
+use borrow.Author.Tests.{lt-ltb, eqb-true, eqb-false}
 use lib.Dec.{eqb, leb, ltb}
 use lib.ListN.{getD}
 use Rattle.expr.specs.Bytes.{within}
@@ -14,9 +14,8 @@ use Rattle.moves.specs.Stores.{Answer, ok, no, number, Store}
 use Rattle.ways.specs.Looks.{operatorAt, lookIn, alongOf, otherOf, gateOf, procAt, resumedOf, wayTo}
 use Rattle.decide.specs.Sets.{setTo, setEntry, setAt}
 use Rattle.decide.specs.Decide.{Seen, Moved, moreOf, moving, truthOf, backOf, refusedOf, pushedOf, poppedOf, changedOf, chosenOf, closedOf, openedOf, repeatedOf, enteredTo, enteredOf, returnedOf, testedOf, assignedOf, ruled as tabled, afterSet as afterSetOf, ruleOf}
-use Rattle.decide.specs.Ways.{Sight, actIn, yesIn, noIn, firstIn, secondIn, exprIn, headIn, refusedIn, chosenIn, closedIn, openedIn, repeatedIn, enteredIn, returnedIn, testedIn, ruled, afterSet, setCell, ruleIn, sightOf, packedMove, packed}
-use Rattle.decide.specs.declared.Move.{Move}
-use Rattle.ways.specs.Map.{actAt, onwardAt, gateAt, intoAt, firstAt, secondAt, exprAt, entryAt, Maps}
+use Rattle.decide.specs.Ways.{Sight, Doing, actIn, yesIn, noIn, firstIn, secondIn, exprIn, headIn, refusedIn, chosenIn, closedIn, openedIn, repeatedIn, enteredIn, returnedIn, testedIn, ruled, afterSet, setCell, cellIn, entryIn, ruleIn, sightOf, packedMove, packed}
+use Rattle.ways.specs.Map.{cellAct, actAt, onwardAt, gateAt, intoAt, firstAt, secondAt, exprAt, entryAt, Maps}
 use Rattle.ways.proofs.MapCases.{entry-0, entry-2, entry-4, entry-6, entry-8, entry-10, entry-12}
 
 way-is : (b d : ℕ) → b < 1024 → d < 2 → wayTo b d ≡ b + 1024 * d
@@ -74,9 +73,6 @@ module _ (f tab m : List ℕ) (n : ℕ) (M : Maps f tab n m) (small : n ≤ 1024
   label-in : W % 1024 ≡ b
   label-in = let k : b < 1024 = omega arith in rw (way-is b d k hd) (omega arith)
 
-  side-in : W / 1024 * 1024 ≡ 1024 * d
-  side-in = let k : b < 1024 = omega arith in rw (way-is b d k hd) (omega arith)
-
   near-in : W < 2048
   near-in = let k : b < 1024 = omega arith in rw (way-is b d k hd) (omega arith)
 
@@ -116,8 +112,8 @@ module _ (f tab arr m : List ℕ) (n : ℕ) (M : Maps f tab n m) (small : n ≤ 
   either true x y = refl
   either false x y = refl
 
-  by-move : (x : Move) (y : Moved) → x ≡ packedMove y → ruled x σ ≡ packed (tabled y σ)
-  by-move x y e = ap (λ (x : Move). ruled x σ) e
+  by-move : (x : Doing) (y : Moved) → x ≡ packedMove y → ruled x σ ≡ packed (tabled y σ)
+  by-move x y e = ap (λ (x : Doing). ruled x σ) e
 
   -- a SET
   module _ (e : K ≡ 4) where
@@ -142,34 +138,48 @@ module _ (f tab arr m : List ℕ) (n : ℕ) (M : Maps f tab n m) (small : n ≤ 
       unfolding secondAt
       second-set = rw e
 
-      act-set : (t : Bool) → eqb (getD f (lookIn tab b + 5) 0) 0 ≡ t → actAt f tab b d ≡ cond t 4 6
+      abbrev O : ℕ
+      O = operatorAt (getD f (lookIn tab b + 4) 0) d
+
+      abbrev X : ℕ → Answer Store
+      X o = setTo (word f (lookIn tab b + 6)) o σ (worthAt arr σ (within 32768 f (lookIn tab b + 8)))
+
+      -- any operator over 1 is exclusive
+      exclusive : (o : ℕ) → eqb o 0 ≡ false → eqb o 1 ≡ false → X 2 ≡ X o
+      exclusive zero z w = absurd (true≢false z)
+      exclusive (suc zero) z w = absurd (true≢false w)
+      exclusive (suc (suc o)) z w = refl
+
+      module _ (h : eqb (getD f (lookIn tab b + 5) 0) 0 ≡ true) where
+        act-cell : actAt f tab b d ≡ cellAct O
+        unfolding actAt
+        act-cell = rw (e, h)
+
+        cell-by : (t u : Bool) → eqb O 0 ≡ t → eqb O 1 ≡ u → Agree
+        unfolding ruleIn ruleOf setAt setCell cellIn
+        cell-by true u z w =
+            rw (near, low, act, act-cell, z, expr-in f tab m n M small b d hb hd, expr-set, second-in f tab m n M small b d hb hd, second-set, e, h)
+            (ap (afterSet s m σ) (ap X (sym (eqb-true O 0 z))) ∙ after-set (X O))
+        cell-by false true z w =
+            rw (near, low, act, act-cell, z, w, expr-in f tab m n M small b d hb hd, expr-set, second-in f tab m n M small b d hb hd, second-set, e, h)
+            (ap (afterSet s m σ) (ap X (sym (eqb-true O 1 w))) ∙ after-set (X O))
+        cell-by false false z w =
+            rw (near, low, act, act-cell, z, w, expr-in f tab m n M small b d hb hd, expr-set, second-in f tab m n M small b d hb hd, second-set, e, h)
+            (ap (afterSet s m σ) (exclusive O z w) ∙ after-set (X O))
+
+      act-entry : eqb (getD f (lookIn tab b + 5) 0) 0 ≡ false → actAt f tab b d ≡ 6
       unfolding actAt
-      act-set t h = rw (e, h)
+      act-entry h = rw (e, h)
 
       set-by : (t : Bool) → eqb (getD f (lookIn tab b + 5) 0) 0 ≡ t → Agree
-      unfolding ruleIn ruleOf setAt setCell
-      set-by true h =
-          rw (
-            near,
-            low,
-            act,
-            act-set true h,
-            expr-in f tab m n M small b d hb hd,
-            expr-set,
-            first-in f tab m n M small b d hb hd,
-            first-set,
-            second-in f tab m n M small b d hb hd,
-            second-set,
-            e,
-            h,
-          )
-          (after-set (setTo (word f (lookIn tab b + 6)) (operatorAt (getD f (lookIn tab b + 4) 0) d) σ (worthAt arr σ (within 32768 f (lookIn tab b + 8)))))
+      unfolding ruleIn ruleOf setAt entryIn
+      set-by true h = cell-by h (eqb O 0) (eqb O 1) refl refl
       set-by false h =
           rw (
             near,
             low,
             act,
-            act-set false h,
+            act-entry h,
             expr-in f tab m n M small b d hb hd,
             expr-set,
             first-in f tab m n M small b d hb hd,
@@ -179,7 +189,7 @@ module _ (f tab arr m : List ℕ) (n : ℕ) (M : Maps f tab n m) (small : n ≤ 
             e,
             h,
           )
-          (after-set (setEntry f (lookIn tab b + 8) (word f (lookIn tab b + 6)) (operatorAt (getD f (lookIn tab b + 4) 0) d) arr σ))
+          (after-set (setEntry f (lookIn tab b + 8) (word f (lookIn tab b + 6)) O arr σ))
 
   -- a SKIP
   act-skip : K ≡ 13 → actAt f tab b d ≡ 13
@@ -236,20 +246,20 @@ module _ (f tab arr m : List ℕ) (n : ℕ) (M : Maps f tab n m) (small : n ≤ 
   uncalling e = rw (near, low, act, act-uncall e, e) (by-move _ _ (enters (otherOf d) (first-uncall e) (second-uncall e)))
 
   -- a return
-  module _ (hl : label < n) where
-    back : yesIn m (label + wayTo b d / 1024 * 1024) ≡ onwardAt tab label d false
+  module _ (hl : label < n) (side : ℕ) (sd : side ≡ 1024 * d) where
+    back : yesIn m (label + side) ≡ onwardAt tab label d false
     back =
         let k : label < 1024 = omega arith in
-        let e : label + wayTo b d / 1024 * 1024 ≡ wayTo label d = ap (λ (x : ℕ). label + x) (side-in f tab m n M small b d hb hd) ∙ sym (way-is label d k hd) in
+        let e : label + side ≡ wayTo label d = ap (λ (x : ℕ). label + x) sd ∙ sym (way-is label d k hd) in
         ap (λ (x : ℕ). yesIn m x) e ∙ yes-in f tab m n M small label d hl hd
 
-    returning : returnedIn s m ≡ packedMove (returnedOf S tab)
+    returning : returnedIn s side m ≡ packedMove (returnedOf S tab)
     unfolding returnedIn returnedOf onwardAt
     returning = rw (lt-ltb label 1024 (omega arith), back) (either (eqb calls 0) (refusedOf S 30) (backOf S (resumedOf tab label d) label tab))
 
   -- a test; y is left where it holds, z where it does not
-  stops : (v : ℕ) (x : Move) (y : Moved) → x ≡ packedMove y → cond (leb 2 v) (refusedIn s v) x ≡ packedMove (cond (leb 2 v) (refusedOf S v) y)
-  stops v x y e = ap (λ (x : Move). cond (leb 2 v) (refusedIn s v) x) e ∙ either (leb 2 v) (refusedOf S v) y
+  stops : (v : ℕ) (x : Doing) (y : Moved) → x ≡ packedMove y → cond (leb 2 v) (refusedIn s v) x ≡ packedMove (cond (leb 2 v) (refusedOf S v) y)
+  stops v x y e = ap (λ (x : Doing). cond (leb 2 v) (refusedIn s v) x) e ∙ either (leb 2 v) (refusedOf S v) y
 
   abbrev H : ℕ
   H = lookIn tab (2048 + b)
@@ -259,13 +269,15 @@ module _ (f tab arr m : List ℕ) (n : ℕ) (M : Maps f tab n m) (small : n ≤ 
 
   module _ (y : ℕ) (Y : onwardAt tab b d false ≡ wayTo (alongOf tab d y) d) (v : ℕ) where
     chooses : (z : ℕ) → onwardAt tab b d true ≡ wayTo (alongOf tab d z) d
-        → chosenIn s v m ≡ packedMove (cond (eqb v 0) (pushedOf S (alongOf tab d z) 1 H) (pushedOf S (alongOf tab d y) 0 H))
+        → chosenIn s v m ≡ packedMove (cond (leb 2 v) (refusedOf S v) (cond (eqb v 0) (pushedOf S (alongOf tab d z) 1 H) (pushedOf S (alongOf tab d y) 0 H)))
     unfolding chosenIn
-    chooses z Z = rw (nay, Z, yes, Y, head, own) (either (eqb v 0) (pushedOf S (alongOf tab d z) 1 H) (pushedOf S (alongOf tab d y) 0 H))
+    chooses z Z =
+        rw (nay, Z, yes, Y, head, own)
+        (stops v _ (cond (eqb v 0) (pushedOf S (alongOf tab d z) 1 H) (pushedOf S (alongOf tab d y) 0 H)) (either (eqb v 0) (pushedOf S (alongOf tab d z) 1 H) (pushedOf S (alongOf tab d y) 0 H)))
 
-    opens : openedIn s v m ≡ packedMove (openedOf S v y tab)
+    opens : openedIn s v m ≡ packedMove (cond (leb 2 v) (refusedOf S v) (openedOf S v y tab))
     unfolding openedIn openedOf
-    opens = rw (yes, Y, head, own) (go (cond (eqb kind 3) (eqb label H) false) (eqb v 0))
+    opens = rw (yes, Y, head, own) (stops v _ _ (go (cond (eqb kind 3) (eqb label H) false) (eqb v 0)))
       where
         go : (t u : Bool) → cond t (cond u (packedMove (changedOf S (alongOf tab d y) 2)) (refusedIn s 31)) (cond u (refusedIn s 31) (packedMove (pushedOf S (alongOf tab d y) 2 H)))
             ≡ packedMove (cond t (cond u (changedOf S (alongOf tab d y) 2) (refusedOf S 31)) (cond u (refusedOf S 31) (pushedOf S (alongOf tab d y) 2 H)))
@@ -275,9 +287,9 @@ module _ (f tab arr m : List ℕ) (n : ℕ) (M : Maps f tab n m) (small : n ≤ 
         go false false = refl
 
   module _ (Y : onwardAt tab b d false ≡ wayTo (alongOf tab d b) d) (v : ℕ) where
-    closes : closedIn s v m ≡ packedMove (closedOf S v tab)
+    closes : closedIn s v m ≡ packedMove (cond (leb 2 v) (refusedOf S v) (closedOf S v tab))
     unfolding closedIn closedOf
-    closes = rw (yes, Y, own) (go (eqb v 0) (eqb kind 0))
+    closes = rw (yes, Y, own) (stops v _ _ (go (eqb v 0) (eqb kind 0)))
       where
         go : (t u : Bool) → cond (same t u) (refusedIn s 31) (packedMove (poppedOf S (alongOf tab d b)))
             ≡ packedMove (cond t (cond u (refusedOf S 31) (poppedOf S (alongOf tab d b))) (cond u (poppedOf S (alongOf tab d b)) (refusedOf S 31)))
@@ -286,9 +298,11 @@ module _ (f tab arr m : List ℕ) (n : ℕ) (M : Maps f tab n m) (small : n ≤ 
         go false true = refl
         go false false = refl
 
-    repeats : (z : ℕ) → onwardAt tab b d true ≡ wayTo (alongOf tab d z) d → repeatedIn s v m ≡ packedMove (repeatedOf S v z tab)
+    repeats : (z : ℕ) → onwardAt tab b d true ≡ wayTo (alongOf tab d z) d → repeatedIn s v m ≡ packedMove (cond (leb 2 v) (refusedOf S v) (repeatedOf S v z tab))
     unfolding repeatedIn repeatedOf
-    repeats z Z = rw (nay, Z, yes, Y, own) (either (eqb v 0) (changedOf S (alongOf tab d z) 3) (poppedOf S (alongOf tab d b)))
+    repeats z Z =
+        rw (nay, Z, yes, Y, own)
+        (stops v _ (cond (eqb v 0) (changedOf S (alongOf tab d z) 3) (poppedOf S (alongOf tab d b))) (either (eqb v 0) (changedOf S (alongOf tab d z) 3) (poppedOf S (alongOf tab d b))))
 
   -- the tests by kind and direction: what is left where the test holds or not, what the record does, and that both decide alike
   module _ (e : K ≡ 5) where
@@ -306,15 +320,14 @@ module _ (f tab arr m : List ℕ) (n : ℕ) (M : Maps f tab n m) (small : n ≤ 
 
     if-act : (t : Bool) → eqb d 0 ≡ t → actAt f tab b d ≡ cond t 5 7
     unfolding actAt
-    if-act t D = rw (e, D)
+    if-act true D = rw (e, D)
+    if-act false D = rw (e, D)
 
     if-tests : (t : Bool) → eqb d 0 ≡ t → (v : ℕ) → testedIn s (cond t 5 7) v m ≡ packedMove (testedOf S K v tab)
     unfolding testedIn testedOf chosenOf
     if-tests true D v =
-        rw (e, D)
-        (stops v (chosenIn s v m) (cond (eqb v 0) (pushedOf S (alongOf tab d (lookIn tab (3072 + b))) 1 H) (pushedOf S (alongOf tab d b) 0 H))
-        (chooses b (if-yes D) v (lookIn tab (3072 + b)) (if-no D)))
-    if-tests false D v = rw (e, D) (stops v (closedIn s v m) (closedOf S v tab) (closes (if-up-yes D) v))
+        rw (e, D) (chooses b (if-yes D) v (lookIn tab (3072 + b)) (if-no D))
+    if-tests false D v = rw (e, D) (closes (if-up-yes D) v)
 
   module _ (e : K ≡ 7) where
     fi-yes : eqb d 0 ≡ true → onwardAt tab b d false ≡ wayTo (alongOf tab d b) d
@@ -331,15 +344,13 @@ module _ (f tab arr m : List ℕ) (n : ℕ) (M : Maps f tab n m) (small : n ≤ 
 
     fi-act : (t : Bool) → eqb d 0 ≡ t → actAt f tab b d ≡ cond t 7 5
     unfolding actAt
-    fi-act t D = rw (e, D)
+    fi-act true D = rw (e, D)
+    fi-act false D = rw (e, D)
 
     fi-tests : (t : Bool) → eqb d 0 ≡ t → (v : ℕ) → testedIn s (cond t 7 5) v m ≡ packedMove (testedOf S K v tab)
     unfolding testedIn testedOf chosenOf
-    fi-tests true D v = rw (e, D) (stops v (closedIn s v m) (closedOf S v tab) (closes (fi-yes D) v))
-    fi-tests false D v =
-        rw (e, D)
-        (stops v (chosenIn s v m) (cond (eqb v 0) (pushedOf S (alongOf tab d b) 1 H) (pushedOf S (alongOf tab d (lookIn tab (3072 + b))) 0 H))
-        (chooses (lookIn tab (3072 + b)) (fi-up-yes D) v b (fi-up-no D)))
+    fi-tests true D v = rw (e, D) (closes (fi-yes D) v)
+    fi-tests false D v = rw (e, D) (chooses (lookIn tab (3072 + b)) (fi-up-yes D) v b (fi-up-no D))
 
   module _ (e : K ≡ 8) where
     from-yes : (t : Bool) → eqb d 0 ≡ t → onwardAt tab b d false ≡ wayTo (alongOf tab d b) d
@@ -353,13 +364,13 @@ module _ (f tab arr m : List ℕ) (n : ℕ) (M : Maps f tab n m) (small : n ≤ 
 
     from-act : (t : Bool) → eqb d 0 ≡ t → actAt f tab b d ≡ cond t 8 10
     unfolding actAt
-    from-act t D = rw (e, D)
+    from-act true D = rw (e, D)
+    from-act false D = rw (e, D)
 
     from-tests : (t : Bool) → eqb d 0 ≡ t → (v : ℕ) → testedIn s (cond t 8 10) v m ≡ packedMove (testedOf S K v tab)
     unfolding testedIn testedOf
-    from-tests true D v = rw (e, D) (stops v (openedIn s v m) (openedOf S v b tab) (opens b (from-yes true D) v))
-    from-tests false D v =
-        rw (e, D) (stops v (repeatedIn s v m) (repeatedOf S v (lookIn tab (4096 + b)) tab) (repeats (from-yes false D) v (lookIn tab (4096 + b)) (from-up-no D)))
+    from-tests true D v = rw (e, D) (opens b (from-yes true D) v)
+    from-tests false D v = rw (e, D) (repeats (from-yes false D) v (lookIn tab (4096 + b)) (from-up-no D))
 
   module _ (e4 : eqb K 4 ≡ false) (e13 : eqb K 13 ≡ false) (e11 : eqb K 11 ≡ false) (e12 : eqb K 12 ≡ false) (e3 : leb K 3 ≡ false) where
     module _ (e5 : eqb K 5 ≡ false) (e7 : eqb K 7 ≡ false) (e8 : eqb K 8 ≡ false) where
@@ -377,15 +388,13 @@ module _ (f tab arr m : List ℕ) (n : ℕ) (M : Maps f tab n m) (small : n ≤ 
 
       until-act : (t : Bool) → eqb d 0 ≡ t → actAt f tab b d ≡ cond t 10 8
       unfolding actAt
-      until-act t D = rw (e4, e13, e11, e12, e3, e5, e7, e8, D)
+      until-act true D = rw (e4, e13, e11, e12, e3, e5, e7, e8, D)
+      until-act false D = rw (e4, e13, e11, e12, e3, e5, e7, e8, D)
 
       until-tests : (t : Bool) → eqb d 0 ≡ t → (v : ℕ) → testedIn s (cond t 10 8) v m ≡ packedMove (testedOf S K v tab)
       unfolding testedIn testedOf
-      until-tests true D v =
-          rw (e5, e7, e8, D)
-          (stops v (repeatedIn s v m) (repeatedOf S v (lookIn tab (3072 + b)) tab) (repeats (until-yes D) v (lookIn tab (3072 + b)) (until-no D)))
-      until-tests false D v =
-          rw (e5, e7, e8, D) (stops v (openedIn s v m) (openedOf S v (lookIn tab (3072 + b)) tab) (opens (lookIn tab (3072 + b)) (until-up-yes D) v))
+      until-tests true D v = rw (e5, e7, e8, D) (repeats (until-yes D) v (lookIn tab (3072 + b)) (until-no D))
+      until-tests false D v = rw (e5, e7, e8, D) (opens (lookIn tab (3072 + b)) (until-up-yes D) v)
 
     module _ (ho : lookIn tab b < 32768) where
       expr-test : exprAt tab b ≡ lookIn tab b + 4
@@ -396,38 +405,46 @@ module _ (f tab arr m : List ℕ) (n : ℕ) (M : Maps f tab n m) (small : n ≤ 
       abbrev Tests : ℕ → Type 0
       Tests a = (actAt f tab b d ≡ a) × ((v : ℕ) → testedIn s a v m ≡ packedMove (testedOf S K v tab))
 
-      testing : (a : ℕ) → eqb a 4 ≡ false → eqb a 6 ≡ false → eqb a 13 ≡ false → eqb a 11 ≡ false → eqb a 3 ≡ false → Tests a → Agree
+      testing : (a : ℕ) → (eqb a 4 ≡ false) × (eqb a 12 ≡ false) × (eqb a 14 ≡ false) × (eqb a 6 ≡ false) × (eqb a 13 ≡ false) × (eqb a 11 ≡ false) × (eqb a 3 ≡ false) × (eqb a 9 ≡ false)
+          → Tests a → Agree
       unfolding ruleIn ruleOf
-      testing a a4 a6 a13 a11 a3 T =
-          rw (near, low, act, T .0, a4, a6, a13, a11, a3, e4, e13, e11, e12, e3, expr-in f tab m n M small b d hb hd, expr-test)
+      testing a (a4, a12, a14, a6, a13, a11, a3, a9) T =
+          rw (near, low, act, T .0, a4, a12, a14, a6, a13, a11, a3, a9, e4, e13, e11, e12, e3, expr-in f tab m n M small b d hb hd, expr-test)
           (by-move _ _ (T .1 (truthOf (worthAt arr σ (within 32768 f (lookIn tab b + 4))))))
 
       by-8 : eqb K 5 ≡ false → eqb K 7 ≡ false → (t u : Bool) → eqb K 8 ≡ t → eqb d 0 ≡ u → Agree
-      by-8 e5 e7 true true h D = testing 8 refl refl refl refl refl (from-act (eqb-true K 8 h) true D, from-tests (eqb-true K 8 h) true D)
-      by-8 e5 e7 true false h D = testing 10 refl refl refl refl refl (from-act (eqb-true K 8 h) false D, from-tests (eqb-true K 8 h) false D)
-      by-8 e5 e7 false true h D = testing 10 refl refl refl refl refl (until-act e5 e7 h true D, until-tests e5 e7 h true D)
-      by-8 e5 e7 false false h D = testing 8 refl refl refl refl refl (until-act e5 e7 h false D, until-tests e5 e7 h false D)
+      by-8 e5 e7 true true h D = testing 8 (refl, refl, refl, refl, refl, refl, refl, refl) (from-act (eqb-true K 8 h) true D, from-tests (eqb-true K 8 h) true D)
+      by-8 e5 e7 true false h D = testing 10 (refl, refl, refl, refl, refl, refl, refl, refl) (from-act (eqb-true K 8 h) false D, from-tests (eqb-true K 8 h) false D)
+      by-8 e5 e7 false true h D = testing 10 (refl, refl, refl, refl, refl, refl, refl, refl) (until-act e5 e7 h true D, until-tests e5 e7 h true D)
+      by-8 e5 e7 false false h D = testing 8 (refl, refl, refl, refl, refl, refl, refl, refl) (until-act e5 e7 h false D, until-tests e5 e7 h false D)
 
       by-7 : eqb K 5 ≡ false → (t u : Bool) → eqb K 7 ≡ t → eqb d 0 ≡ u → Agree
-      by-7 e5 true true h D = testing 7 refl refl refl refl refl (fi-act (eqb-true K 7 h) true D, fi-tests (eqb-true K 7 h) true D)
-      by-7 e5 true false h D = testing 5 refl refl refl refl refl (fi-act (eqb-true K 7 h) false D, fi-tests (eqb-true K 7 h) false D)
+      by-7 e5 true true h D = testing 7 (refl, refl, refl, refl, refl, refl, refl, refl) (fi-act (eqb-true K 7 h) true D, fi-tests (eqb-true K 7 h) true D)
+      by-7 e5 true false h D = testing 5 (refl, refl, refl, refl, refl, refl, refl, refl) (fi-act (eqb-true K 7 h) false D, fi-tests (eqb-true K 7 h) false D)
       by-7 e5 false u h D = by-8 e5 h (eqb K 8) u refl D
 
       by-5 : (t u : Bool) → eqb K 5 ≡ t → eqb d 0 ≡ u → Agree
-      by-5 true true h D = testing 5 refl refl refl refl refl (if-act (eqb-true K 5 h) true D, if-tests (eqb-true K 5 h) true D)
-      by-5 true false h D = testing 7 refl refl refl refl refl (if-act (eqb-true K 5 h) false D, if-tests (eqb-true K 5 h) false D)
+      by-5 true true h D = testing 5 (refl, refl, refl, refl, refl, refl, refl, refl) (if-act (eqb-true K 5 h) true D, if-tests (eqb-true K 5 h) true D)
+      by-5 true false h D = testing 7 (refl, refl, refl, refl, refl, refl, refl, refl) (if-act (eqb-true K 5 h) false D, if-tests (eqb-true K 5 h) false D)
       by-5 false u h D = by-7 h (eqb K 7) u refl D
 
   -- ---- the other kinds
   module _ (ho : lookIn tab b < 32768) (hl : label < n) where
     module _ (e4 : eqb K 4 ≡ false) (e13 : eqb K 13 ≡ false) (e11 : eqb K 11 ≡ false) (e12 : eqb K 12 ≡ false) where
-      act-return : leb K 3 ≡ true → actAt f tab b d ≡ 3
+      act-return : leb K 3 ≡ true → (t : Bool) → eqb d 0 ≡ t → actAt f tab b d ≡ cond t 3 9
       unfolding actAt
-      act-return h = rw (e4, e13, e11, e12, h)
+      act-return h t D = rw (e4, e13, e11, e12, h, D)
+
+      returns : leb K 3 ≡ true → (t : Bool) → eqb d 0 ≡ t → Agree
+      unfolding ruleIn ruleOf
+      returns h true D = rw (near, low, act, act-return h true D, e4, e13, e11, e12, h) (by-move _ _ (returning hl 0 (omega (arith, eqb-true d 0 D))))
+      returns h false D = rw (near, low, act, act-return h false D, e4, e13, e11, e12, h) (by-move _ _ (returning hl 1024 (up-one (eqb-false d 0 D))))
+        where
+          up-one : (d ≡ 0 → ⊥) → 1024 ≡ 1024 * d
+          up-one z = omega arith
 
       by-3 : (t : Bool) → leb K 3 ≡ t → Agree
-      unfolding ruleIn ruleOf
-      by-3 true h = rw (near, low, act, act-return h, e4, e13, e11, e12, h) (by-move _ _ (returning hl))
+      by-3 true h = returns h (eqb d 0) refl
       by-3 false h = by-5 e4 e13 e11 e12 h ho (eqb K 5) (eqb d 0) refl refl
 
     by-12 : eqb K 4 ≡ false → eqb K 13 ≡ false → eqb K 11 ≡ false → (t : Bool) → eqb K 12 ≡ t → Agree

@@ -109,15 +109,20 @@ poppedIn s y = moving 0 y (labelIn (s .way)) (s .calls) (fewerOf (s .count)) (sl
 abbrev pub changedIn : Sight → ℕ → ℕ → Doing
 changedIn s y k = moving 0 y (labelIn (s .way)) (s .calls) (s .count) (slotOf (s .count)) k (s .label)
 
+-- what is answered where no reason stops it and so many frames are left
+abbrev pub onTo : Sight → ℕ → ℕ → Move
+onTo s y n = record { reason = 0; way = y; a = labelIn (s .way); calls = s .calls; count = n }
+
 -- ---- the acts; an expression that is stopped holds the number of its reason
 abbrev pub passedIn : Sight → ℕ → Doing → Doing
 passedIn s v d = cond (leb 2 v) (refusedIn s v) d
 
 unfoldable pub chosenIn : Sight → ℕ → List ℕ → Doing
-chosenIn s v m = cond (eqb v 0) (pushedIn s (noIn m (s .way)) 1 (headIn m (s .way))) (pushedIn s (yesIn m (s .way)) 0 (headIn m (s .way)))
+chosenIn s v m =
+    passedIn s v (cond (eqb v 0) (pushedIn s (noIn m (s .way)) 1 (headIn m (s .way))) (pushedIn s (yesIn m (s .way)) 0 (headIn m (s .way))))
 
 unfoldable pub closedIn : Sight → ℕ → List ℕ → Doing
-closedIn s v m = cond (same (eqb v 0) (eqb (s .kind) 0)) (refusedIn s 31) (poppedIn s (yesIn m (s .way)))
+closedIn s v m = passedIn s v (cond (same (eqb v 0) (eqb (s .kind) 0)) (refusedIn s 31) (poppedIn s (yesIn m (s .way))))
 
 -- the innermost frame is in s2 of the loop that is met
 abbrev pub againIn : Sight → ℕ → Bool
@@ -125,12 +130,13 @@ againIn s h = cond (eqb (s .kind) 3) (eqb (s .label) h) false
 
 unfoldable pub openedIn : Sight → ℕ → List ℕ → Doing
 openedIn s v m =
-    cond (againIn s (headIn m (s .way)))
+    passedIn s v
+    (cond (againIn s (headIn m (s .way)))
     (cond (eqb v 0) (changedIn s (yesIn m (s .way)) 2) (refusedIn s 31))
-    (cond (eqb v 0) (refusedIn s 31) (pushedIn s (yesIn m (s .way)) 2 (headIn m (s .way))))
+    (cond (eqb v 0) (refusedIn s 31) (pushedIn s (yesIn m (s .way)) 2 (headIn m (s .way)))))
 
 unfoldable pub repeatedIn : Sight → ℕ → List ℕ → Doing
-repeatedIn s v m = cond (eqb v 0) (changedIn s (noIn m (s .way)) 3) (poppedIn s (yesIn m (s .way)))
+repeatedIn s v m = passedIn s v (cond (eqb v 0) (changedIn s (noIn m (s .way)) 3) (poppedIn s (yesIn m (s .way))))
 
 unfoldable pub enteredIn : Sight → List ℕ → Doing
 enteredIn s m =
@@ -146,8 +152,7 @@ returnedIn s side m = cond (eqb (s .calls) 0) (refusedIn s 30) (cond (ltb (s .la
 
 -- the record met does a, and its expression holds v
 unfoldable pub testedIn : Sight → ℕ → ℕ → List ℕ → Doing
-testedIn s a v m =
-    passedIn s v (cond (eqb a 5) (chosenIn s v m) (cond (eqb a 7) (closedIn s v m) (cond (eqb a 8) (openedIn s v m) (repeatedIn s v m))))
+testedIn s a v m = cond (eqb a 5) (chosenIn s v m) (cond (eqb a 7) (closedIn s v m) (cond (eqb a 8) (openedIn s v m) (repeatedIn s v m)))
 
 abbrev pub assignedIn : Sight → ℕ → List ℕ → Doing
 assignedIn s n m = cond (eqb n 0) (keptIn s (yesIn m (s .way))) (refusedIn s n)
@@ -162,6 +167,11 @@ pub record Rules (x : Ruled) (ks ls : List ℕ) (m : Move) (ks′ ls′ : List �
   pub does : Does (x .move) ks ls m ks′ ls′
   pub left : σ ≡ x .store
 
+-- a SET writes no slot
+pub record Sets (x : Ruled) (m : Move) (σ : Store) : Type 0 where
+  pub made : m ≡ told (x .move)
+  pub left : σ ≡ x .store
+
 abbrev pub ruled : Doing → Store → Ruled
 ruled m σ = record { move = m; store = σ }
 
@@ -173,9 +183,12 @@ afterSet s m σ (no q) = ruled (assignedIn s (number q) m) σ
 unfoldable pub setCell : List ℕ → ℕ → ℕ → ℕ → List ℕ → Store → Answer Store
 setCell f at c o arr σ = setTo c o σ (worthAt arr σ (within 32768 f at))
 
--- a SET of a cell, by its act
-abbrev pub cellIn : List ℕ → List ℕ → List ℕ → Sight → Store → ℕ → Ruled
+-- a SET by the map: of a cell, with the operator o; of an entry
+unfoldable pub cellIn : List ℕ → List ℕ → List ℕ → Sight → Store → ℕ → Ruled
 cellIn f m arr s σ o = afterSet s m σ (setCell f (exprIn m (s .way)) (secondIn m (s .way)) o arr σ)
+
+unfoldable pub entryIn : List ℕ → List ℕ → List ℕ → Sight → Store → Ruled
+entryIn f m arr s σ = afterSet s m σ (setEntry f (exprIn m (s .way)) (secondIn m (s .way)) (firstIn m (s .way)) arr σ)
 
 -- no way is 2,048 or above, and no fitting place comes to one
 unfoldable pub ruleIn : List ℕ → List ℕ → List ℕ → Sight → Store → Ruled
@@ -184,7 +197,7 @@ ruleIn f m arr s σ =
     (cond (eqb (actIn m (s .way)) 4) (cellIn f m arr s σ 0)
     (cond (eqb (actIn m (s .way)) 12) (cellIn f m arr s σ 1)
     (cond (eqb (actIn m (s .way)) 14) (cellIn f m arr s σ 2)
-    (cond (eqb (actIn m (s .way)) 6) (afterSet s m σ (setEntry f (exprIn m (s .way)) (secondIn m (s .way)) (firstIn m (s .way)) arr σ))
+    (cond (eqb (actIn m (s .way)) 6) (entryIn f m arr s σ)
     (cond (eqb (actIn m (s .way)) 13) (ruled (keptIn s (yesIn m (s .way))) σ)
     (cond (eqb (actIn m (s .way)) 11) (ruled (enteredIn s m) σ)
     (cond (eqb (actIn m (s .way)) 3) (ruled (returnedIn s 0 m) σ)

@@ -11,29 +11,26 @@ ghost use Prim.Native.Nat.{_+_, _<_, _≤_};
 ghost use lib.ListN.{getD};
 ghost use Rattle.expr.specs.Answers.{worthAt};
 ghost use Rattle.expr.specs.Bytes.{within};
-ghost use Rattle.decide.specs.Decide.{moreOf, fewerOf, truthOf};
-ghost use Rattle.decide.specs.Ways.{bare, byKind, byLabel, sight, yesIn, noIn, refusedIn, keptIn, pushedIn, poppedIn, changedIn, chosenIn, closedIn, againIn, openedIn, repeatedIn, enteredIn, backIn, returnedIn, testedIn, assignedIn, Rules, ruleIn};
+ghost use Rattle.decide.specs.Decide.{moreOf, fewerOf, slotOf, putIn, truthOf};
+ghost use Rattle.decide.specs.Ways.{bare, byKind, byLabel, sight, yesIn, noIn, exprIn, told, Does, onTo, refusedIn, chosenIn, closedIn, againIn, openedIn, repeatedIn, enteredIn, backIn, returnedIn, testedIn, assignedIn, Sets, cellIn, entryIn, Rules, ruleIn};
 
 mod set;
 
 // Where a step stands: the way of the record met, how many frames are calls, how many there are.
 pub struct Spot {
     pub way: usize,
-    pub calls: u16,
+    pub calls: usize,
     pub count: usize,
 }
 
-// What it does: reason 0, the next way and the label before it, or the reason; one slot is written (none: 1,104), and so many
-// frames are left.
+// What it does: reason 0, the next way and the label before it, or the reason; and how many frames are left. It writes the one
+// slot that changes.
 pub struct Move {
     pub reason: u8,
     pub way: usize,
     pub a: u16,
-    pub calls: u16,
+    pub calls: usize,
     pub count: usize,
-    pub slot: usize,
-    pub kind: u16,
-    pub label: u16,
 }
 
 // A u16 as a number, with the bound that sums of it need.
@@ -43,16 +40,42 @@ fn wide(x: u16) -> usize
     x as usize
 }
 
-fn more(n: usize) -> usize
-    ensures { λ r. ⌜ r ≡ moreOf n ⌝ }
+// One frame more; a full place stays as it is.
+fn push(kinds: &mut [u16; 1104], labels: &mut [u16; 1104], n: usize, kind: u16, label: u16) -> usize
+    ensures { λ r. ⌜ (r ≡ moreOf n) × ((now (kinds .exit) ≡ putIn (now (kinds .entry)) n kind) × (now (labels .exit) ≡ putIn (now (labels .entry)) n label)) ⌝ }
 {
-    if n < 1104 { n + 1 } else { n }
+    if n < 1104 {
+        kinds[n] = kind;
+        labels[n] = label;
+        return n + 1;
+    }
+    n
 }
 
-fn fewer(n: usize) -> usize
-    ensures { λ r. ⌜ r ≡ fewerOf n ⌝ }
+// One frame less: its slot is cleared.
+fn pop(kinds: &mut [u16; 1104], labels: &mut [u16; 1104], n: usize) -> usize
+    ensures { λ r. ⌜ (r ≡ fewerOf n) × ((now (kinds .exit) ≡ putIn (now (kinds .entry)) (slotOf n) 0) × (now (labels .exit) ≡ putIn (now (labels .entry)) (slotOf n) 0)) ⌝ }
 {
-    if n == 0 { 0 } else { n - 1 }
+    if n == 0 {
+        return 0;
+    }
+    if n <= 1104 {
+        kinds[n - 1] = 0;
+        labels[n - 1] = 0;
+    }
+    n - 1
+}
+
+// The innermost frame's kind.
+fn change(kinds: &mut [u16; 1104], n: usize, kind: u16)
+    ensures { λ _. ⌜ now (kinds .exit) ≡ putIn (now (kinds .entry)) (slotOf n) kind ⌝ }
+{
+    if n == 0 {
+        return;
+    }
+    if n <= 1104 {
+        kinds[n - 1] = kind;
+    }
 }
 
 // The entry of a way in a section of the map.
@@ -94,7 +117,7 @@ fn truth(bytes: &[u8; 32784], at: usize, arrays: &[u16; 32], cells: &[i32; 2048]
 
 impl Spot {
     fn refused(self, reason: u8) -> Move
-        ensures { λ r. ⌜ r ≡ refusedIn (bare self) reason ⌝ }
+        ensures { λ r. ⌜ r ≡ told (refusedIn (bare self) reason) ⌝ }
     {
         Move {
             reason,
@@ -102,105 +125,55 @@ impl Spot {
             a: 0,
             calls: self.calls,
             count: self.count,
-            slot: 1104,
-            kind: 0,
-            label: 0,
         }
     }
 
-    // The same frames: no slot is written.
-    fn kept(self, next: usize) -> Move
-        ensures { λ r. ⌜ r ≡ keptIn (bare self) next ⌝ }
+    // On to another way, with so many frames.
+    fn on(self, next: usize, count: usize) -> Move
+        ensures { λ r. ⌜ r ≡ onTo (bare self) next count ⌝ }
     {
         let a = label_of(self.way);
-        Move {
-            reason: 0,
-            way: next,
-            a,
-            calls: self.calls,
-            count: self.count,
-            slot: 1104,
-            kind: 0,
-            label: 0,
-        }
-    }
-
-    fn pushed(self, next: usize, kind: u16, label: u16) -> Move
-        ensures { λ r. ⌜ r ≡ pushedIn (bare self) next kind label ⌝ }
-    {
-        let a = label_of(self.way);
-        let count = more(self.count);
         Move {
             reason: 0,
             way: next,
             a,
             calls: self.calls,
             count,
-            slot: self.count,
-            kind,
-            label,
-        }
-    }
-
-    fn popped(self, next: usize) -> Move
-        ensures { λ r. ⌜ r ≡ poppedIn (bare self) next ⌝ }
-    {
-        let a = label_of(self.way);
-        let count = fewer(self.count);
-        Move {
-            reason: 0,
-            way: next,
-            a,
-            calls: self.calls,
-            count,
-            slot: count,
-            kind: 0,
-            label: 0,
-        }
-    }
-
-    // The innermost frame with another kind.
-    fn changed(self, next: usize, kind: u16, labels: &[u16; 1104]) -> Move
-        ensures { λ r. ⌜ r ≡ changedIn (byLabel self (now (labels .entry))) next kind ⌝ }
-    {
-        let a = label_of(self.way);
-        let slot = fewer(self.count);
-        let label = top_of(labels, self.count, 0);
-        Move {
-            reason: 0,
-            way: next,
-            a,
-            calls: self.calls,
-            count: self.count,
-            slot,
-            kind,
-            label,
         }
     }
 
     // IF down and FI up choose: true takes s1, false s2.
-    fn chosen(self, v: u8, map: &[u16; 14336]) -> Move
+    fn chosen(self, v: u8, kinds: &mut [u16; 1104], labels: &mut [u16; 1104], map: &[u16; 14336]) -> Move
         requires { ⌜ self .way < 2048 ⌝ }
-        ensures { λ r. ⌜ r ≡ chosenIn (bare self) v (now (map .entry)) ⌝ }
+        ensures { λ r. ⌜ Does (chosenIn (bare self) v (now (map .entry))) (now (kinds .entry)) (now (labels .entry)) r (now (kinds .exit)) (now (labels .exit)) ⌝ }
     {
+        if 2 <= v {
+            return self.refused(v);
+        }
         let head = entry(map, 12288, self.way);
         if v == 0 {
-            return self.pushed(elsewhere(map, self.way), 1, head);
+            let next = elsewhere(map, self.way);
+            return self.on(next, push(kinds, labels, self.count, 1, head));
         }
-        self.pushed(onward(map, self.way), 0, head)
+        let next = onward(map, self.way);
+        self.on(next, push(kinds, labels, self.count, 0, head))
     }
 
     // IF up and FI down close: value and frame must agree.
-    fn closed(self, v: u8, kinds: &[u16; 1104], map: &[u16; 14336]) -> Move
+    fn closed(self, v: u8, kinds: &mut [u16; 1104], labels: &mut [u16; 1104], map: &[u16; 14336]) -> Move
         requires { ⌜ self .way < 2048 ⌝ }
-        ensures { λ r. ⌜ r ≡ closedIn (byKind self (now (kinds .entry))) v (now (map .entry)) ⌝ }
+        ensures { λ r. ⌜ Does (closedIn (byKind self (now (kinds .entry))) v (now (map .entry))) (now (kinds .entry)) (now (labels .entry)) r (now (kinds .exit)) (now (labels .exit)) ⌝ }
     {
+        if 2 <= v {
+            return self.refused(v);
+        }
         let kind = top_of(kinds, self.count, 9);
         // one test that nearly always holds, and none of the value by itself
         if (v == 0) == (kind == 0) {
             return self.refused(31);
         }
-        self.popped(onward(map, self.way))
+        let next = onward(map, self.way);
+        self.on(next, pop(kinds, labels, self.count))
     }
 
     // Whether one comes to the loop from its s2.
@@ -215,83 +188,86 @@ impl Spot {
     }
 
     // FROM down and UNTIL up open: true from outside, false from s2.
-    fn opened(self, v: u8, kinds: &[u16; 1104], labels: &[u16; 1104], map: &[u16; 14336]) -> Move
+    fn opened(self, v: u8, kinds: &mut [u16; 1104], labels: &mut [u16; 1104], map: &[u16; 14336]) -> Move
         requires { ⌜ self .way < 2048 ⌝ }
-        ensures { λ r. ⌜ r ≡ openedIn (sight self (now (kinds .entry)) (now (labels .entry))) v (now (map .entry)) ⌝ }
+        ensures { λ r. ⌜ Does (openedIn (sight self (now (kinds .entry)) (now (labels .entry))) v (now (map .entry))) (now (kinds .entry)) (now (labels .entry)) r (now (kinds .exit)) (now (labels .exit)) ⌝ }
     {
+        if 2 <= v {
+            return self.refused(v);
+        }
         let head = entry(map, 12288, self.way);
         let next = onward(map, self.way);
         if self.again(head, kinds, labels) {
-            if v == 0 {
-                return self.changed(next, 2, labels);
+            if v != 0 {
+                return self.refused(31);
             }
-            return self.refused(31);
+            change(kinds, self.count, 2);
+            return self.on(next, self.count);
         }
         if v == 0 {
             return self.refused(31);
         }
-        self.pushed(next, 2, head)
+        self.on(next, push(kinds, labels, self.count, 2, head))
     }
 
     // UNTIL down and FROM up test: true leaves the loop, false enters s2.
-    fn repeated(self, v: u8, labels: &[u16; 1104], map: &[u16; 14336]) -> Move
+    fn repeated(self, v: u8, kinds: &mut [u16; 1104], labels: &mut [u16; 1104], map: &[u16; 14336]) -> Move
         requires { ⌜ self .way < 2048 ⌝ }
-        ensures { λ r. ⌜ r ≡ repeatedIn (byLabel self (now (labels .entry))) v (now (map .entry)) ⌝ }
+        ensures { λ r. ⌜ Does (repeatedIn (byLabel self (now (labels .entry))) v (now (map .entry))) (now (kinds .entry)) (now (labels .entry)) r (now (kinds .exit)) (now (labels .exit)) ⌝ }
     {
-        if v == 0 {
-            return self.changed(elsewhere(map, self.way), 3, labels);
+        if 2 <= v {
+            return self.refused(v);
         }
-        self.popped(onward(map, self.way))
+        if v == 0 {
+            let next = elsewhere(map, self.way);
+            change(kinds, self.count, 3);
+            return self.on(next, self.count);
+        }
+        let next = onward(map, self.way);
+        self.on(next, pop(kinds, labels, self.count))
     }
 
     // A call enters a procedure at the edge that the map has; a 65th is refused.
-    fn entered(self, map: &[u16; 14336]) -> Move
+    fn entered(self, kinds: &mut [u16; 1104], labels: &mut [u16; 1104], map: &[u16; 14336]) -> Move
         requires { ⌜ self .way < 2048 ⌝ }
-        ensures { λ r. ⌜ r ≡ enteredIn (bare self) (now (map .entry)) ⌝ }
+        ensures { λ r. ⌜ Does (enteredIn (bare self) (now (map .entry))) (now (kinds .entry)) (now (labels .entry)) r (now (kinds .exit)) (now (labels .exit)) ⌝ }
     {
         let calls = self.calls;
         if 64 <= calls {
             return self.refused(34);
         }
-        let label = label_of(self.way);
+        let count = push(kinds, labels, self.count, 4, label_of(self.way));
         let a = entry(map, 6144, self.way);
         let way = wide(entry(map, 8192, self.way));
-        let count = more(self.count);
         Move {
             reason: 0,
             way,
             a,
             calls: calls + 1,
             count,
-            slot: self.count,
-            kind: 4,
-            label,
         }
     }
 
-    // Back at the calling record of a label, and on from there.
-    fn back_to(self, label: u16, map: &[u16; 14336]) -> Move
-        requires { ⌜ (0 < self .calls) × ((label < 1024) × (self .way < 2048)) ⌝ }
-        ensures { λ r. ⌜ r ≡ backIn (bare self) label (now (map .entry)) ⌝ }
+    // Back at the calling record of a label, and on from there; `side` is the half of a section for the direction.
+    fn back_to(self, label: u16, side: usize, kinds: &mut [u16; 1104], labels: &mut [u16; 1104], map: &[u16; 14336]) -> Move
+        requires { ⌜ (0 < self .calls) × ((label < 1024) × (side ≤ 1024)) ⌝ }
+        ensures { λ r. ⌜ Does (backIn (bare self) label side (now (map .entry))) (now (kinds .entry)) (now (labels .entry)) r (now (kinds .exit)) (now (labels .exit)) ⌝ }
     {
-        let way = onward(map, wide(label) + self.way / 1024 * 1024);
-        let count = fewer(self.count);
+        let way = onward(map, wide(label) + side);
+        let count = pop(kinds, labels, self.count);
         Move {
             reason: 0,
             way,
             a: label,
             calls: self.calls - 1,
             count,
-            slot: count,
-            kind: 0,
-            label: 0,
         }
     }
 
     // END down and BEGIN up return to the calling record; none is left at the end of main.
-    fn returned(self, labels: &[u16; 1104], map: &[u16; 14336]) -> Move
-        requires { ⌜ self .way < 2048 ⌝ }
-        ensures { λ r. ⌜ r ≡ returnedIn (byLabel self (now (labels .entry))) (now (map .entry)) ⌝ }
+    fn returned(self, side: usize, kinds: &mut [u16; 1104], labels: &mut [u16; 1104], map: &[u16; 14336]) -> Move
+        requires { ⌜ side ≤ 1024 ⌝ }
+        ensures { λ r. ⌜ Does (returnedIn (byLabel self (now (labels .entry))) side (now (map .entry))) (now (kinds .entry)) (now (labels .entry)) r (now (kinds .exit)) (now (labels .exit)) ⌝ }
     {
         let calls = self.calls;
         if calls == 0 {
@@ -301,84 +277,124 @@ impl Spot {
         if 1024 <= label {
             return self.refused(21);
         }
-        self.back_to(label, map)
-    }
-
-    // A record that does `act` and whose expression holds v, or is stopped.
-    fn tested(
-        self,
-        act: u16,
-        v: u8,
-        kinds: &[u16; 1104],
-        labels: &[u16; 1104],
-        map: &[u16; 14336],
-    ) -> Move
-        requires { ⌜ self .way < 2048 ⌝ }
-        ensures { λ r. ⌜ r ≡ testedIn (sight self (now (kinds .entry)) (now (labels .entry))) act v (now (map .entry)) ⌝ }
-    {
-        if 2 <= v {
-            return self.refused(v);
-        }
-        if act == 5 {
-            return self.chosen(v, map);
-        }
-        if act == 7 {
-            return self.closed(v, kinds, map);
-        }
-        if act == 8 {
-            return self.opened(v, kinds, labels, map);
-        }
-        self.repeated(v, labels, map)
+        self.back_to(label, side, kinds, labels, map)
     }
 
     // A SET that answered a number.
     fn assigned(self, reason: u8, map: &[u16; 14336]) -> Move
         requires { ⌜ self .way < 2048 ⌝ }
-        ensures { λ r. ⌜ r ≡ assignedIn (bare self) reason (now (map .entry)) ⌝ }
+        ensures { λ r. ⌜ r ≡ told (assignedIn (bare self) reason (now (map .entry))) ⌝ }
     {
         if reason == 0 {
-            return self.kept(onward(map, self.way));
+            return self.on(onward(map, self.way), self.count);
         }
         self.refused(reason)
     }
 }
 
-// The decision; only a SET writes the store.
-pub fn decide(
+// A SET of a cell, with the operator o.
+fn cell(
     s: Spot,
-    kinds: &[u16; 1104],
-    labels: &[u16; 1104],
+    o: usize,
     bytes: &[u8; 32784],
     map: &[u16; 14336],
     arrays: &[u16; 32],
     cells: &mut [i32; 2048],
 ) -> Move
-    ensures { λ r. ⌜ Rules (ruleIn (now (bytes .entry)) (now (map .entry)) (now (arrays .entry)) (sight s (now (kinds .entry)) (now (labels .entry))) (now (cells .entry))) r (now (cells .exit)) ⌝ }
+    requires { ⌜ s .way < 2048 ⌝ }
+    ensures { λ r. ⌜ Sets (cellIn (now (bytes .entry)) (now (map .entry)) (now (arrays .entry)) (bare s) (now (cells .entry)) o) r (now (cells .exit)) ⌝ }
+{
+    let at = wide(entry(map, 10240, s.way));
+    let target = wide(entry(map, 8192, s.way));
+    let reason = set_cell(bytes, at, o, target, arrays, cells);
+    s.assigned(reason, map)
+}
+
+// A SET of an entry.
+fn cell_of_array(
+    s: Spot,
+    bytes: &[u8; 32784],
+    map: &[u16; 14336],
+    arrays: &[u16; 32],
+    cells: &mut [i32; 2048],
+) -> Move
+    requires { ⌜ s .way < 2048 ⌝ }
+    ensures { λ r. ⌜ Sets (entryIn (now (bytes .entry)) (now (map .entry)) (now (arrays .entry)) (bare s) (now (cells .entry))) r (now (cells .exit)) ⌝ }
+{
+    let at = wide(entry(map, 10240, s.way));
+    let o = wide(entry(map, 6144, s.way));
+    let target = wide(entry(map, 8192, s.way));
+    let reason = set_entry(bytes, at, o, target, arrays, cells);
+    s.assigned(reason, map)
+}
+
+// A record that tests. Each act evaluates its expression by itself, so that the processor foresees each way on by itself.
+fn tested(
+    s: Spot,
+    act: u16,
+    kinds: &mut [u16; 1104],
+    labels: &mut [u16; 1104],
+    bytes: &[u8; 32784],
+    map: &[u16; 14336],
+    arrays: &[u16; 32],
+    cells: &[i32; 2048],
+) -> Move
+    requires { ⌜ s .way < 2048 ⌝ }
+    ensures { λ r. ⌜ Does (testedIn (sight s (now (kinds .entry)) (now (labels .entry))) act (truthOf (worthAt (now (arrays .entry)) (now (cells .entry)) (within 32768 (now (bytes .entry)) (exprIn (now (map .entry)) (s .way))))) (now (map .entry))) (now (kinds .entry)) (now (labels .entry)) r (now (kinds .exit)) (now (labels .exit)) ⌝ }
+{
+    let at = wide(entry(map, 10240, s.way));
+    if act == 5 {
+        return s.chosen(truth(bytes, at, arrays, cells), kinds, labels, map);
+    }
+    if act == 7 {
+        return s.closed(truth(bytes, at, arrays, cells), kinds, labels, map);
+    }
+    if act == 8 {
+        return s.opened(truth(bytes, at, arrays, cells), kinds, labels, map);
+    }
+    s.repeated(truth(bytes, at, arrays, cells), kinds, labels, map)
+}
+
+// The decision. Only a SET writes the store; the frames are written in place.
+pub fn decide(
+    s: Spot,
+    kinds: &mut [u16; 1104],
+    labels: &mut [u16; 1104],
+    bytes: &[u8; 32784],
+    map: &[u16; 14336],
+    arrays: &[u16; 32],
+    cells: &mut [i32; 2048],
+) -> Move
+    ensures { λ r. ⌜ Rules (ruleIn (now (bytes .entry)) (now (map .entry)) (now (arrays .entry)) (sight s (now (kinds .entry)) (now (labels .entry))) (now (cells .entry))) (now (kinds .entry)) (now (labels .entry)) r (now (kinds .exit)) (now (labels .exit)) (now (cells .exit)) ⌝ }
 {
     // no way is above, so that what follows asks the map without a test
     if 2048 <= s.way {
         return s.refused(21);
     }
     let act = entry(map, 0, s.way);
-    let at = wide(entry(map, 10240, s.way));
     if act == 4 {
-        let o = wide(entry(map, 6144, s.way));
-        let reason = set_cell(bytes, at, o, wide(entry(map, 8192, s.way)), arrays, cells);
-        return s.assigned(reason, map);
+        return cell(s, 0, bytes, map, arrays, cells);
+    }
+    if act == 12 {
+        return cell(s, 1, bytes, map, arrays, cells);
+    }
+    if act == 14 {
+        return cell(s, 2, bytes, map, arrays, cells);
     }
     if act == 6 {
-        let o = wide(entry(map, 6144, s.way));
-        let reason = set_entry(bytes, at, o, wide(entry(map, 8192, s.way)), arrays, cells);
-        return s.assigned(reason, map);
+        return cell_of_array(s, bytes, map, arrays, cells);
     }
     if act == 13 {
-        return s.kept(onward(map, s.way));
+        return s.on(onward(map, s.way), s.count);
     }
     if act == 11 {
-        return s.entered(map);
+        return s.entered(kinds, labels, map);
     }
     if act == 3 {
-        return s.returned(labels, map);
+        return s.returned(0, kinds, labels, map);
     }
-    s.tested(act, truth(bytes, at, arrays, cells), kinds, labels, map)
+    if act == 9 {
+        return s.returned(1024, kinds, labels, map);
+    }
+    tested(s, act, kinds, labels, bytes, map, arrays, cells)
 }

@@ -9,7 +9,7 @@ ghost use mathlib.Core.Path.{_≡_};
 ghost use Prim.Native.Nat.{_≤_};
 ghost use Rattle.ways.specs.Looks.{wayTo};
 ghost use Rattle.decide.specs.Ways.{ruleIn};
-ghost use Rattle.machine.specs.Walk.{putIn, callsIn, callsOf, spotBy, endedIn, standOf, goOf, Goes};
+ghost use Rattle.machine.specs.Walk.{callsIn, callsOf, spotBy, endedIn, standOf, goOf, Goes};
 
 // How far it went: why it stopped (0: all steps were made), how many were made, and where it is.
 pub struct Went {
@@ -44,21 +44,12 @@ fn ended(
     }
 }
 
-// Writes a slot; a number that no slot has writes nothing.
-fn put(s: &mut [u16; 1104], i: usize, v: u16)
-    ensures { λ _. ⌜ now (s .exit) ≡ putIn (now (s .entry)) i v ⌝ }
-{
-    if i < 1104 {
-        s[i] = v;
-    }
-}
-
 // How many of the first n slots are calls.
-fn count(kinds: &[u16; 1104], n: usize) -> u16
+fn count(kinds: &[u16; 1104], n: usize) -> usize
     requires { ⌜ n ≤ 1104 ⌝ }
     ensures { λ r. ⌜ r ≡ callsIn (now (kinds .entry)) n ⌝ }
 {
-    let mut calls: u16 = 0;
+    let mut calls: usize = 0;
     let mut i: usize = 0;
     while i < n {
         if kinds[i] == 4 {
@@ -69,7 +60,7 @@ fn count(kinds: &[u16; 1104], n: usize) -> u16
     calls
 }
 
-pub fn calls(kinds: &[u16; 1104], n: usize) -> u16
+pub fn calls(kinds: &[u16; 1104], n: usize) -> usize
     ensures { λ r. ⌜ r ≡ callsOf (now (kinds .entry)) n ⌝ }
 {
     if n <= 1104 {
@@ -79,7 +70,7 @@ pub fn calls(kinds: &[u16; 1104], n: usize) -> u16
 }
 
 // Where a step stands.
-fn spot(way: usize, calls: u16, count: usize) -> Spot
+fn spot(way: usize, calls: usize, count: usize) -> Spot
     ensures { λ r. ⌜ r ≡ spotBy way calls count ⌝ }
 {
     Spot { way, calls, count }
@@ -100,7 +91,7 @@ pub fn go(
     arrays: &[u16; 32],
     cells: &mut [i32; 2048],
     place: Place,
-    calls: u16,
+    calls: usize,
     n: u32,
 ) -> Went
     ensures { λ r. ⌜ Goes (goOf (ruleIn (now (bytes .entry)) (now (map .entry)) (now (arrays .entry))) n (standOf place) calls (now (cells .entry)) 0) r (now (cells .exit)) ⌝ }
@@ -114,7 +105,7 @@ pub fn go(
     let mut made: u32 = 0;
     while made < n {
         let s = spot(way, deep, count);
-        let m = decide(s, &kinds, &labels, bytes, map, arrays, cells);
+        let m = decide(s, &mut kinds, &mut labels, bytes, map, arrays, cells);
         if m.reason != 0 {
             return ended(m.reason, made, way, a, count, kinds, labels);
         }
@@ -123,8 +114,6 @@ pub fn go(
         a = m.a;
         count = m.count;
         deep = m.calls;
-        put(&mut kinds, m.slot, m.kind);
-        put(&mut labels, m.slot, m.label);
     }
     ended(0, made, way, a, count, kinds, labels)
 }

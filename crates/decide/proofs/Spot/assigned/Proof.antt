@@ -1,6 +1,6 @@
 -- `decide::Spot::assigned` meets its contract: the cases of `DecideCases`. Assumes nothing.
 use borrow.Author.Needs.{needs}
-use Rattle.decide.proofs.DecideCases.{calls}
+use Rattle.decide.proofs.DecideCases.{sets}
 use Rattle.decide.proofs.Spot.assigned.Statement.{statement}
 use Rattle.decide.proofs.Spot.assigned.Tie as tie
 
@@ -10,6 +10,6 @@ assigned-spec =
     (tie.spec
     (λ c κs. search needs)
     (λ c κs. search needs)
-    (λ c. search calls)
+    (λ c. search sets)
     (λ c κs. search needs)
-    (λ c. search calls))
+    (λ c. search sets))

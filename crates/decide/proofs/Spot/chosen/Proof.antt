@@ -9,9 +9,13 @@ chosen-spec =
     tie.close
     (tie.spec
     (λ c κs. search needs)
+    (λ c. search acts)
+    (λ c κs. search needs)
+    (λ c κs. search needs)
     (λ c κs. search needs)
     (λ c κs. search needs)
     (λ c. search acts)
+    (λ c κs. search needs)
     (λ c κs. search needs)
     (λ c κs. search needs)
     (λ c. search acts))

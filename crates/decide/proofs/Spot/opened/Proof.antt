@@ -9,13 +9,17 @@ opened-spec =
     tie.close
     (tie.spec
     (λ c κs. search needs)
+    (λ c. search acts)
     (λ c κs. search needs)
+    (λ c κs. search needs)
+    (λ c κs. search needs)
+    (λ c κs. search needs)
+    (λ c. search acts)
     (λ c κs. search needs)
     (λ c κs. search needs)
     (λ c. search acts)
     (λ c κs. search needs)
     (λ c. search acts)
     (λ c κs. search needs)
-    (λ c. search acts)
     (λ c κs. search needs)
     (λ c. search acts))
