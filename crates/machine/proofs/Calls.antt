@@ -27,11 +27,11 @@ use Rattle.expr.proofs.Layer.{and-true}
 use Rattle.table.proofs.Facts.{facts}
 use Rattle.table.proofs.Tabled.{Tabled}
 use Rattle.ways.specs.Looks.{lookIn, otherOf, alongOf, gateOf, resumedOf}
-use Rattle.decide.specs.Decide.{Seen, Moved, moreOf, behindOf, refusedOf, enteredTo, enteredOf, returnedOf, moving, ruled, ruleOf}
+use Rattle.decide.specs.Decide.{Seen, Moved, moreOf, behindOf, refusedOf, enteredTo, enteredOf, returnedOf, moving, ruled, ruleOf, slotOf}
 use Rattle.decide.proofs.Rules.{behind-call, behind-uncall}
 use Rattle.fits.proofs.Few.{encl-room, stack-room, room}
 use Rattle.machine.proofs.Labels.{inside}
-use Rattle.machine.proofs.Landing.{topLabel, spotAt, Fate, Acts, lands, acts-push, acts-pop}
+use Rattle.machine.proofs.Landing.{topLabel, spotAt, Fate, Acts, lands, acts-push, acts-pop, slot-top}
 use Rattle.machine.proofs.Sets.{Agrees}
 use Rattle.machine.proofs.Decided.{w, kind-at}
 use Rattle.machine.proofs.Fates as fates
@@ -129,14 +129,14 @@ module _ {f : List ℕ} {t : Tree} (A : Accepts f t) {tab : List ℕ} (T : Table
         rw (z, tl, rs, bh) (
           refl,
           lands A T (frames g (c ∷ cs)) m c d′ cs F′ (omega arith) refl (sym sc) refl
-              (subst (λ H. Acts A T (frames g (c ∷ cs)) m H) new (subst (λ H. Acts A T H m (P .encl c ++ stack P cs)) (sym old) (acts-pop A T (P .encl c ++ stack P cs) r (called c) m cnt cnt refl refl))),
+              (subst (λ H. Acts A T (frames g (c ∷ cs)) m H) new (subst (λ H. Acts A T H m (P .encl c ++ stack P cs)) (sym old) (acts-pop A T (P .encl c ++ stack P cs) r (called c) m cnt (slot-top A T _ _ (ap length old)) refl refl))),
           less (length cs),
           refl,
           F′,
         )
       where
         m : Moved
-        m = moving 0 (dirNumber d′) c (alongOf tab (dirNumber d′) c) (suc (length cs) - 1) (length (frames g (c ∷ cs)) - 1) (length (frames g (c ∷ cs)) - 1) 0 0
+        m = moving 0 (dirNumber d′) c (alongOf tab (dirNumber d′) c) (suc (length cs) - 1) (length (frames g (c ∷ cs)) - 1) (slotOf (length (frames g (c ∷ cs)))) 0 0
 
         less : (n : ℕ) → suc n - 1 ≡ n
         less n = omega arith

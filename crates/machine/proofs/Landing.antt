@@ -7,7 +7,7 @@ use lib.ListN.{length, length-map}
 use lib.Dec.{eqb}
 use native.Mathlib.Omega.{arith}
 use native.Mathlib.Numerals.{add-one}
-use borrow.Author.Tests.{lt-ltb}
+use borrow.Author.Tests.{lt-ltb, ne-eqb}
 use Rattle.place.specs.declared.Place.{Place as Held}
 use Rattle.place.specs.Places.{Dir, opp, Frame, frameKind, frameLabel}
 use Rattle.place.specs.Slots.{dirNumber, slots, held}
@@ -24,8 +24,8 @@ use Rattle.moves.proofs.Gaps.{tip}
 use Rattle.moves.proofs.View.{stack, view}
 use Rattle.table.proofs.Tabled.{Tabled}
 use Rattle.ways.specs.Looks.{alongOf}
-use Rattle.decide.specs.Decide.{Seen, Moved, moreOf, keptOf, pushedOf, poppedOf, changedOf, againOf, Ruled, ruled}
-use Rattle.machine.specs.Walk.{putIn}
+use Rattle.decide.specs.Decide.{Seen, Moved, moreOf, keptOf, pushedOf, poppedOf, changedOf, againOf, Ruled, ruled, putIn, slotOf}
+
 use Rattle.machine.proofs.Labels.{along-is}
 use Rattle.fits.proofs.Few.{room}
 
@@ -130,6 +130,10 @@ module _ {f : List ℕ} {t : Tree} (A : Accepts f t) {tab : List ℕ} (T : Table
   less : (n : ℕ) → suc n - 1 ≡ n
   less n = omega arith
 
+  -- the slot of the innermost frame
+  pub slot-top : (n k : ℕ) → n ≡ suc k → slotOf n ≡ k
+  slot-top n k e = rw (ne-eqb n 0 (λ z. omega arith)) (omega arith)
+
   -- ---- the four ways, by the frames around the gap before and behind
   module _ (g : ℕ) (d : Dir) (cs : List ℕ) (F₀ : Sits P (record { g = g; d = d; cs = cs })) (b y y′ : ℕ) (F : Sits P (leave y d cs)) (h : 0 < y)
       (e : side (P .at y) y (opp d) ≡ b) (yy : y′ ≡ y) (σ : Store) where
@@ -164,16 +168,17 @@ module _ {f : List ℕ} {t : Tree} (A : Accepts f t) {tab : List ℕ} (T : Table
     pops f G q k =
         let r : length (G ++ stack P cs) < 1104 = omega (arith, before, ap (λ H. length (H ++ stack P cs)) q) in
         let n : length (P .encl g ++ stack P cs) - 1 ≡ length (G ++ stack P cs) = ap (λ H. length (H ++ stack P cs) - 1) q ∙ less (length (G ++ stack P cs)) in
+        let i : slotOf (length (P .encl g ++ stack P cs)) ≡ length (G ++ stack P cs) = slot-top _ _ (ap (λ H. length (H ++ stack P cs)) q) in
         to _ refl refl refl refl refl
         (subst (λ H. Acts (P .encl g ++ stack P cs) (poppedOf S (alongOf tab (dirNumber d) y′)) (H ++ stack P cs)) k
-        (subst (λ H. Acts (H ++ stack P cs) (poppedOf S (alongOf tab (dirNumber d) y′)) (G ++ stack P cs)) (sym q) (acts-pop (G ++ stack P cs) r f (poppedOf S (alongOf tab (dirNumber d) y′)) n n refl refl)))
+        (subst (λ H. Acts (H ++ stack P cs) (poppedOf S (alongOf tab (dirNumber d) y′)) (G ++ stack P cs)) (sym q) (acts-pop (G ++ stack P cs) r f (poppedOf S (alongOf tab (dirNumber d) y′)) n i refl refl)))
 
     pub changes : (f f′ : Frame) (G : List Frame) (k : ℕ) → P .encl g ≡ f ∷ G → k ≡ frameKind f′ → frameLabel f ≡ frameLabel f′ → f′ ∷ G ≡ P .encl (gap y d)
         → To (changedOf S (alongOf tab (dirNumber d) y′) k)
     changes f f′ G k q ek el j =
         let r : length (G ++ stack P cs) < 1104 = omega (arith, before, ap (λ H. length (H ++ stack P cs)) q) in
         let c : length (P .encl g ++ stack P cs) ≡ suc (length (G ++ stack P cs)) = ap (λ H. length (H ++ stack P cs)) q in
-        let n : length (P .encl g ++ stack P cs) - 1 ≡ length (G ++ stack P cs) = ap (λ H. length (H ++ stack P cs) - 1) q ∙ less (length (G ++ stack P cs)) in
+        let n : slotOf (length (P .encl g ++ stack P cs)) ≡ length (G ++ stack P cs) = slot-top _ _ c in
         let l : topLabel (P .encl g ++ stack P cs) ≡ frameLabel f′ = ap (λ H. topLabel (H ++ stack P cs)) q ∙ el in
         to _ refl refl refl refl refl
         (subst (λ H. Acts (P .encl g ++ stack P cs) (changedOf S (alongOf tab (dirNumber d) y′) k) (H ++ stack P cs)) j

@@ -1,28 +1,21 @@
 -- The loop of a run, turn by turn: what is left to run is the run's. Assumes nothing.
-use mathlib.Core.Path.{_≡_, refl, sym, ap, _∙_}
+use mathlib.Core.Path.{_≡_, refl, sym, ap, _∙_, subst}
 use mathlib.Core.List.{List}
+use mathlib.Core.Bool.{true, false}
+use lib.Dec.{eqb}
 use Prim.Native.Nat.{ℕ, suc, _+_, _-_, _≤_, _<_}
 use native.Mathlib.Numerals.{add-one}
 use native.Mathlib.Omega.{arith}
 use borrow.Author.Tests.{eq-eqb, ne-eqb, lt-ltb, le-ltb, le-leb, lt-leb}
-use lib.ListN.{getD, set}
+use lib.ListN.{getD}
 use Rattle.moves.specs.Stores.{Store}
 use Rattle.decide.specs.declared.Spot.{Spot}
 use Rattle.decide.specs.declared.Move.{Move}
 use Rattle.ways.specs.Looks.{labelIn, sideIn}
-use Rattle.decide.specs.Ways.{Sight, sight, Ruled, Rules}
+use Rattle.decide.specs.Decide.{putIn}
+use Rattle.decide.specs.Ways.{Sight, Doing, sight, told, Ruled, Rules}
 use Rattle.machine.specs.declared.walk.Went.{Went}
-use Rattle.machine.specs.Walk.{putIn, callsIn, callsOf, Stand, heldBy, endedIn, spotBy, sightIn, Gone, goOf, Goes}
-
-pub put-near : (s : List ℕ) (i v : ℕ) → i < 1104 → set s i v ≡ putIn s i v
-unfolding putIn
-put-near s i v h = rw (lt-ltb i 1104 h)
-
-pub put-far : (s : List ℕ) (i v : ℕ) → 1104 ≤ i → s ≡ putIn s i v
-unfolding putIn
-put-far s i v h = rw (le-ltb i 1104 h)
-
-pub ruleset puts = (put-near, put-far)
+use Rattle.machine.specs.Walk.{callsIn, callsOf, Stand, heldBy, endedIn, spotBy, sightIn, Gone, goOf, Goes}
 
 -- ---- counting calls
 module _ (s : List ℕ) (i n : ℕ) (e : n ≡ callsIn s i) where
@@ -72,25 +65,43 @@ module _ (R : Sight → Store → Ruled) (n : ℕ) (q₀ : Stand) (c₀ : ℕ) (
   unfolding goOf
   goes-done q qq r k e = let z : n - made ≡ 0 = omega arith in goes q qq r σ (inv ∙ rw (z, e))
 
-  module _ (s : Spot) (ss : s ≡ standing h c) (m : Move) (τ : Store) (rules : Rules (R (sight s (h .kinds) (h .labels)) σ) m τ) (more : made < n) where
+  module _ (s : Spot) (ss : s ≡ standing h c) (m : Move) (ks ls : List ℕ) (τ : Store) (rules : Rules (R (sight s (h .kinds) (h .labels)) σ) (h .kinds) (h .labels) m ks ls τ)
+      (more : made < n) where
     left : n - made ≡ suc (n - (made + 1))
     left = omega arith
 
-    move-is : R (sightIn h c) σ .move ≡ m
-    move-is = sym (rules .made ∙ ap (λ (x : Sight). R x σ .move) (stands h c s ss))
+    -- what the rule says here
+    abbrev D : Doing
+    D = R (sightIn h c) σ .move
 
-    store-is : R (sightIn h c) σ .store ≡ τ
-    store-is = sym (rules .left ∙ ap (λ (x : Sight). R x σ .store) (stands h c s ss))
+    met : Rules (R (sightIn h c) σ) (h .kinds) (h .labels) m ks ls τ
+    met = subst (λ (x : Sight). Rules (R x σ) (h .kinds) (h .labels) m ks ls τ) (stands h c s ss) rules
 
-    pub goes-refused : (q : Stand) → q₀ ≡ q → (r : Went) → (m .reason ≡ 0 → ⊥) → r ≡ record { reason = m .reason; steps = made; place = heldBy h } → Goes (goOf R n q c₀ σ₀ 0) r τ
-    unfolding goOf
-    goes-refused q qq r e w = goes q qq r τ (inv ∙ rw (left, move-is, store-is, ne-eqb (m .reason) 0 e, w))
+    reason-is : D .reason ≡ m .reason
+    reason-is = sym (ap (λ (m : Move). m .reason) (met .does .made))
 
-    pub goes-on : m .reason ≡ 0 → (ks ls : List ℕ) → ks ≡ putIn (h .kinds) (m .slot) (m .kind) → ls ≡ putIn (h .labels) (m .slot) (m .label)
-        → goOf R n q₀ c₀ σ₀ 0
-        ≡ goOf R (n - (made + 1)) (record { way = m .way; a = m .a; count = m .count; kinds = ks; labels = ls }) (m .calls) τ (made + 1)
-    unfolding goOf
-    goes-on e ks ls ek el = inv ∙ rw (left, move-is, store-is, eq-eqb (m .reason) 0 e, ek, el)
+    module _ (q : Stand) (qq : q₀ ≡ q) (r : Went) (e : m .reason ≡ 0 → ⊥) where
+      stopped : eqb (D .reason) 0 ≡ false
+      stopped = ne-eqb (D .reason) 0 (λ z. e (sym reason-is ∙ z))
+
+      -- a refused step writes no slot
+      pub goes-refused : r ≡ record { reason = m .reason; steps = made; place = heldBy (record { way = h .way; a = h .a; count = h .count; kinds = ks; labels = ls }) } → Goes (goOf R n q c₀ σ₀ 0) r τ
+      unfolding goOf
+      goes-refused w =
+          let k : ks ≡ h .kinds = met .does .kinds ∙ rw stopped in
+          let l : ls ≡ h .labels = met .does .labels ∙ rw stopped in
+          goes q qq r τ (inv ∙ rw (left, stopped, w, k, l, reason-is, met .left))
+
+    module _ (e : m .reason ≡ 0) where
+      arrived : eqb (D .reason) 0 ≡ true
+      arrived = eq-eqb (D .reason) 0 (reason-is ∙ e)
+
+      pub goes-on : goOf R n q₀ c₀ σ₀ 0 ≡ goOf R (n - (made + 1)) (record { way = m .way; a = m .a; count = m .count; kinds = ks; labels = ls }) (m .calls) τ (made + 1)
+      unfolding goOf
+      goes-on =
+          let k : ks ≡ putIn (h .kinds) (D .slot) (D .kind) = met .does .kinds ∙ rw arrived in
+          let l : ls ≡ putIn (h .labels) (D .slot) (D .label) = met .does .labels ∙ rw arrived in
+          inv ∙ rw (left, arrived, met .does .made, k, l, met .left)
 
 pub go-start : (R : Sight → Store → Ruled) (n : ℕ) (q : Stand) (c : ℕ) (σ : Store) → goOf R n q c σ 0 ≡ goOf R (n - 0) q c σ 0
 go-start R n q c σ = let z : n - 0 ≡ n = omega arith in rw z

@@ -1,6 +1,7 @@
 -- `machine::walk::go` meets its contract. The loop's invariant: what is left to run is the run's. Assumes nothing.
 use mathlib.Core.Path.{_≡_}
-use Prim.Native.Nat.{_-_, _≤_}
+use mathlib.Core.List.{List}
+use Prim.Native.Nat.{ℕ, _-_, _≤_}
 use native.Mathlib.Omega.{arith}
 use borrow.Author.Needs.{needs}
 use Rattle.moves.specs.Stores.{Store}
@@ -13,7 +14,6 @@ use Rattle.machine.proofs.walk.go.Tie as tie
 use Rattle.machine.proofs.walk.go.Reads as reads
 use Rattle.machine.proofs.walk.go.Lts as lts
 use Rattle.machine.proofs.walk.ended.Reads as ended-reads
-use Rattle.machine.proofs.walk.put.Reads as put-reads
 use Rattle.machine.proofs.walk.spot.Reads as spot-reads
 use Rattle.machine.proofs.walk.way_of.Reads as way-of-reads
 
@@ -28,19 +28,19 @@ abbrev μ-loop : tie.MeasureT-loop
     n - made
 
 abbrev Known : Type 0
-Known = lts.After-struct-known (way-of-reads.Asked, way-of-reads.Learnt, spot-reads.Asked, spot-reads.Learnt, decide-reads.Asked, decide-reads.Learnt, ended-reads.Asked, ended-reads.Learnt, put-reads.Asked, put-reads.Learnt) reads.Pre reads.Post Inv-loop μ-loop
+Known = lts.After-struct-known (way-of-reads.Asked, way-of-reads.Learnt, spot-reads.Asked, spot-reads.Learnt, decide-reads.Asked, decide-reads.Learnt, ended-reads.Asked, ended-reads.Learnt) reads.Pre reads.Post Inv-loop μ-loop
 
 abbrev Looped : Type 0
-Looped = lts.At-loop (way-of-reads.Asked, way-of-reads.Learnt, spot-reads.Asked, spot-reads.Learnt, decide-reads.Asked, decide-reads.Learnt, ended-reads.Asked, ended-reads.Learnt, put-reads.Asked, put-reads.Learnt) reads.Pre reads.Post Inv-loop μ-loop
+Looped = lts.At-loop (way-of-reads.Asked, way-of-reads.Learnt, spot-reads.Asked, spot-reads.Learnt, decide-reads.Asked, decide-reads.Learnt, ended-reads.Asked, ended-reads.Learnt) reads.Pre reads.Post Inv-loop μ-loop
 
 abbrev Started : Type 0
-Started = lts.Start (way-of-reads.Asked, way-of-reads.Learnt, spot-reads.Asked, spot-reads.Learnt, decide-reads.Asked, decide-reads.Learnt, ended-reads.Asked, ended-reads.Learnt, put-reads.Asked, put-reads.Learnt) reads.Pre reads.Post Inv-loop μ-loop
+Started = lts.Start (way-of-reads.Asked, way-of-reads.Learnt, spot-reads.Asked, spot-reads.Learnt, decide-reads.Asked, decide-reads.Learnt, ended-reads.Asked, ended-reads.Learnt) reads.Pre reads.Post Inv-loop μ-loop
 
-abbrev in-turn : Known → lts.In-loop (way-of-reads.Asked, way-of-reads.Learnt, spot-reads.Asked, spot-reads.Learnt, decide-reads.Asked, decide-reads.Learnt, ended-reads.Asked, ended-reads.Learnt, put-reads.Asked, put-reads.Learnt) reads.Pre reads.Post Inv-loop μ-loop
+abbrev in-turn : Known → lts.In-loop (way-of-reads.Asked, way-of-reads.Learnt, spot-reads.Asked, spot-reads.Learnt, decide-reads.Asked, decide-reads.Learnt, ended-reads.Asked, ended-reads.Learnt) reads.Pre reads.Post Inv-loop μ-loop
 in-turn k = k .before .before .before .before .before .before
 
 -- where the step stands
-abbrev spotted : (k : Known) → lts.After-spot (way-of-reads.Asked, way-of-reads.Learnt, spot-reads.Asked, spot-reads.Learnt, decide-reads.Asked, decide-reads.Learnt, ended-reads.Asked, ended-reads.Learnt, put-reads.Asked, put-reads.Learnt) reads.Pre reads.Post Inv-loop μ-loop
+abbrev spotted : (k : Known) → lts.After-spot (way-of-reads.Asked, way-of-reads.Learnt, spot-reads.Asked, spot-reads.Learnt, decide-reads.Asked, decide-reads.Learnt, ended-reads.Asked, ended-reads.Learnt) reads.Pre reads.Post Inv-loop μ-loop
 spotted k = k .before .before .before .before .before
 
 abbrev looped : Known → Looped
@@ -64,7 +64,13 @@ begun l = record { way = l .before .way-of .result; a = l .before .before .befor
 given : (l : Looped) → begun l ≡ standOf (l .before .before .before .before .args .place)
 given l = λ i. record { way = l .before .way-of .ensures i; a = l .before .before .before .before .args .place .a; count = l .before .before .before .before .args .place .count; kinds = l .before .before .before .before .args .place .kinds; labels = l .before .before .before .before .args .place .labels }
 
--- the store that the decision left
+-- the slots and the store that the decision left
+abbrev kinded : Known → List ℕ
+kinded k = k .before .decide .last .1 .0
+
+abbrev labelled : Known → List ℕ
+labelled k = k .before .decide .last .1 .1 .0
+
 abbrev stored : Known → Store
 stored k = k .before .decide .last .1 .1 .1 .1 .1 .1 .0
 
@@ -79,14 +85,12 @@ go-spec =
     (λ c κs. search needs)
     (λ c κs. search needs)
     (λ c κs. search needs)
-    (λ c. let k = c .before .before in goes-refused (rule (started k)) (started k .args .n) (begun (looped k)) (started k .args .calls) (started k .args .cells .now) (looped k .loop .made) (held (looped k)) (looped k .loop .deep) (looped k .loop .cells) (looped k .loop .inv .1) (spotted k .spot .result) (spotted k .spot .ensures) (k .before .decide .result) (stored k) (k .before .decide .ensures) (in-turn k .loop-test .taken) (standOf (started k .args .place)) (given (looped k)) _ (c .before .if1 .taken) (c .ended .ensures))
+    (λ c. let k = c .before .before in goes-refused (rule (started k)) (started k .args .n) (begun (looped k)) (started k .args .calls) (started k .args .cells .now) (looped k .loop .made) (held (looped k)) (looped k .loop .deep) (looped k .loop .cells) (looped k .loop .inv .1) (spotted k .spot .result) (spotted k .spot .ensures) (k .before .decide .result) (kinded k) (labelled k) (stored k) (k .before .decide .ensures) (in-turn k .loop-test .taken) (standOf (started k .args .place)) (given (looped k)) _ (c .before .if1 .taken) (c .ended .ensures))
     (λ c. omega (arith, in-turn (c .before) .loop-test .taken, started (c .before) .fits .n))
-    (λ c κs. search needs)
-    (λ c κs. search needs)
-    (λ c. omega (arith, in-turn (c .before .before .before .before .before) .loop-test .taken))
-    (λ c. let e = c .before .before .before .before in let k = e .before in (
+    (λ c. omega (arith, in-turn (c .before) .loop-test .taken))
+    (λ c. let k = c .before in (
       omega (arith, in-turn k .loop-test .taken),
-      goes-on (rule (started k)) (started k .args .n) (begun (looped k)) (started k .args .calls) (started k .args .cells .now) (looped k .loop .made) (held (looped k)) (looped k .loop .deep) (looped k .loop .cells) (looped k .loop .inv .1) (spotted k .spot .result) (spotted k .spot .ensures) (k .before .decide .result) (stored k) (k .before .decide .ensures) (in-turn k .loop-test .taken) (e .if1 .left) _ _ (c .before .before .put .ensures) (c .put2 .ensures),
+      goes-on (rule (started k)) (started k .args .n) (begun (looped k)) (started k .args .calls) (started k .args .cells .now) (looped k .loop .made) (held (looped k)) (looped k .loop .deep) (looped k .loop .cells) (looped k .loop .inv .1) (spotted k .spot .result) (spotted k .spot .ensures) (k .before .decide .result) (kinded k) (labelled k) (stored k) (k .before .decide .ensures) (in-turn k .loop-test .taken) (c .if1 .left),
     ))
     (λ c κs. search needs)
     (λ c. let l = c .before .before in goes-done _ _ _ _ _ _ _ _ _ (l .loop .inv .1) (standOf (l .before .before .before .before .args .place)) (given l) _ (c .before .loop-test .left) (c .ended2 .ensures)))
