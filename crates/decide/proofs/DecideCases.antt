@@ -136,73 +136,56 @@ on-is s y a n e = rw e
 
 -- ---- the acts; ks and ls are the slots, ks′ and ls′ afterwards
 module _ (s : Spot) (v : ℕ) (map : List ℕ) (m : Move) (ks ls : List ℕ) where
-  pub chosen-stop : 2 ≤ v → m ≡ told (refusedIn (bare s) v) → Does (chosenIn (bare s) v map) ks ls m ks ls
-  unfolding chosenIn
-  chosen-stop h e = rw (le-leb 2 v h) (refuses s 0 0 m ks ls v e)
+  module _ (next n : ℕ) (e : m ≡ onTo (bare s) next n) (ks′ ls′ : List ℕ) where
+    module _ (head : ℕ) (hh : head ≡ headIn map (s .way)) where
+      pub chosen-else : v ≡ 0 → (n ≡ moreOf (s .count)) × ((ks′ ≡ putIn ks (s .count) 1) × (ls′ ≡ putIn ls (s .count) head)) → next ≡ noIn map (s .way)
+          → Does (chosenIn (bare s) v map) ks ls m ks′ ls′
+      unfolding chosenIn
+      chosen-else z p q = rw (eq-eqb v 0 z, ← q, ← hh) (pushes s next n m ks ls e ks′ ls′ 1 head p)
 
-  pub closed-stop : 2 ≤ v → m ≡ told (refusedIn (bare s) v) → Does (closedIn (byKind s ks) v map) ks ls m ks ls
-  unfolding closedIn byKind
-  closed-stop h e = rw (le-leb 2 v h) (refuses s 0 0 m ks ls v e)
+      pub chosen-then : (v ≡ 0 → ⊥) → (n ≡ moreOf (s .count)) × ((ks′ ≡ putIn ks (s .count) 0) × (ls′ ≡ putIn ls (s .count) head)) → next ≡ yesIn map (s .way)
+          → Does (chosenIn (bare s) v map) ks ls m ks′ ls′
+      unfolding chosenIn
+      chosen-then z p q = rw (ne-eqb v 0 z, ← q, ← hh) (pushes s next n m ks ls e ks′ ls′ 0 head p)
 
-  pub opened-stop : 2 ≤ v → m ≡ told (refusedIn (bare s) v) → Does (openedIn (sight s ks ls) v map) ks ls m ks ls
-  unfolding openedIn sight
-  opened-stop h e = rw (le-leb 2 v h) (refuses s 0 0 m ks ls v e)
-
-  pub repeated-stop : 2 ≤ v → m ≡ told (refusedIn (bare s) v) → Does (repeatedIn (byLabel s ls) v map) ks ls m ks ls
-  unfolding repeatedIn byLabel
-  repeated-stop h e = rw (le-leb 2 v h) (refuses s 0 0 m ks ls v e)
-
-  module _ (low : v < 2) where
-    module _ (next n : ℕ) (e : m ≡ onTo (bare s) next n) (ks′ ls′ : List ℕ) where
-      module _ (head : ℕ) (hh : head ≡ headIn map (s .way)) where
-        pub chosen-else : v ≡ 0 → (n ≡ moreOf (s .count)) × ((ks′ ≡ putIn ks (s .count) 1) × (ls′ ≡ putIn ls (s .count) head)) → next ≡ noIn map (s .way)
-            → Does (chosenIn (bare s) v map) ks ls m ks′ ls′
-        unfolding chosenIn
-        chosen-else z p q = rw (lt-leb 2 v low, eq-eqb v 0 z, ← q, ← hh) (pushes s next n m ks ls e ks′ ls′ 1 head p)
-
-        pub chosen-then : (v ≡ 0 → ⊥) → (n ≡ moreOf (s .count)) × ((ks′ ≡ putIn ks (s .count) 0) × (ls′ ≡ putIn ls (s .count) head)) → next ≡ yesIn map (s .way)
-            → Does (chosenIn (bare s) v map) ks ls m ks′ ls′
-        unfolding chosenIn
-        chosen-then z p q = rw (lt-leb 2 v low, ne-eqb v 0 z, ← q, ← hh) (pushes s next n m ks ls e ks′ ls′ 0 head p)
-
-      pub closed-yes : (k : ℕ) → k ≡ topAt ks (s .count) 9 → same (eqb v 0) (eqb k 0) ≡ false
-          → (n ≡ s .count - 1) × ((ks′ ≡ putIn ks (slotOf (s .count)) 0) × (ls′ ≡ putIn ls (slotOf (s .count)) 0)) → next ≡ yesIn map (s .way)
-          → Does (closedIn (byKind s ks) v map) ks ls m ks′ ls′
-      unfolding closedIn byKind
-      closed-yes k kk t p q = rw (lt-leb 2 v low, ← kk, t, ← q) (pops s next n m ks ls e ks′ ls′ p)
-
-      pub repeated-true : (v ≡ 0 → ⊥) → (n ≡ s .count - 1) × ((ks′ ≡ putIn ks (slotOf (s .count)) 0) × (ls′ ≡ putIn ls (slotOf (s .count)) 0)) → next ≡ yesIn map (s .way)
-          → Does (repeatedIn (byLabel s ls) v map) ks ls m ks′ ls′
-      unfolding repeatedIn byLabel
-      repeated-true z p q = rw (lt-leb 2 v low, ne-eqb v 0 z, ← q) (pops s next n m ks ls e ks′ ls′ p)
-
-      pub opened-true : (head : ℕ) → head ≡ headIn map (s .way) → (g : Bool) → g ≡ againIn (sight s ks ls) head → g ≡ false → (v ≡ 0 → ⊥)
-          → (n ≡ moreOf (s .count)) × ((ks′ ≡ putIn ks (s .count) 2) × (ls′ ≡ putIn ls (s .count) head)) → next ≡ yesIn map (s .way) → Does (openedIn (sight s ks ls) v map) ks ls m ks′ ls′
-      unfolding openedIn sight
-      opened-true head hh g gg t z p q = rw (lt-leb 2 v low, ← hh, ← gg, t, ne-eqb v 0 z, ← q) (pushes s next n m ks ls e ks′ ls′ 2 head p)
-
-    pub closed-no : (k : ℕ) → k ≡ topAt ks (s .count) 9 → same (eqb v 0) (eqb k 0) ≡ true → m ≡ told (refusedIn (bare s) 31) → Does (closedIn (byKind s ks) v map) ks ls m ks ls
+    pub closed-yes : (k : ℕ) → k ≡ topAt ks (s .count) 9 → same (eqb v 0) (eqb k 0) ≡ false
+        → (n ≡ s .count - 1) × ((ks′ ≡ putIn ks (slotOf (s .count)) 0) × (ls′ ≡ putIn ls (slotOf (s .count)) 0)) → next ≡ yesIn map (s .way)
+        → Does (closedIn (byKind s ks) v map) ks ls m ks′ ls′
     unfolding closedIn byKind
-    closed-no k kk t e = rw (lt-leb 2 v low, ← kk, t) (refuses s 0 0 m ks ls 31 e)
+    closed-yes k kk t p q = rw (← kk, t, ← q) (pops s next n m ks ls e ks′ ls′ p)
 
-    module _ (next : ℕ) (e : m ≡ onTo (bare s) next (s .count)) (ks′ : List ℕ) where
-      pub repeated-false : v ≡ 0 → ks′ ≡ putIn ks (slotOf (s .count)) 3 → next ≡ noIn map (s .way) → Does (repeatedIn (byLabel s ls) v map) ks ls m ks′ ls
-      unfolding repeatedIn byLabel
-      repeated-false z kk q = rw (lt-leb 2 v low, eq-eqb v 0 z) (rw q at (changes s next 0 m ks ls 3 ks′ e kk))
+    pub repeated-true : (v ≡ 0 → ⊥) → (n ≡ s .count - 1) × ((ks′ ≡ putIn ks (slotOf (s .count)) 0) × (ls′ ≡ putIn ls (slotOf (s .count)) 0)) → next ≡ yesIn map (s .way)
+        → Does (repeatedIn (byLabel s ls) v map) ks ls m ks′ ls′
+    unfolding repeatedIn byLabel
+    repeated-true z p q = rw (ne-eqb v 0 z, ← q) (pops s next n m ks ls e ks′ ls′ p)
 
-      pub opened-again : (head : ℕ) → head ≡ headIn map (s .way) → (g : Bool) → g ≡ againIn (sight s ks ls) head → g ≡ true → v ≡ 0
-          → ks′ ≡ putIn ks (slotOf (s .count)) 2 → next ≡ yesIn map (s .way) → Does (openedIn (sight s ks ls) v map) ks ls m ks′ ls
-      unfolding openedIn sight byLabel
-      opened-again head hh g gg t z kk q = rw (lt-leb 2 v low, ← hh, ← gg, t, eq-eqb v 0 z, ← q) (changes s next 0 m ks ls 2 ks′ e kk)
+    pub opened-true : (head : ℕ) → head ≡ headIn map (s .way) → (g : Bool) → g ≡ againIn (sight s ks ls) head → g ≡ false → (v ≡ 0 → ⊥)
+        → (n ≡ moreOf (s .count)) × ((ks′ ≡ putIn ks (s .count) 2) × (ls′ ≡ putIn ls (s .count) head)) → next ≡ yesIn map (s .way) → Does (openedIn (sight s ks ls) v map) ks ls m ks′ ls′
+    unfolding openedIn sight
+    opened-true head hh g gg t z p q = rw (← hh, ← gg, t, ne-eqb v 0 z, ← q) (pushes s next n m ks ls e ks′ ls′ 2 head p)
 
-    module _ (head : ℕ) (hh : head ≡ headIn map (s .way)) (g : Bool) (gg : g ≡ againIn (sight s ks ls) head) (e : m ≡ told (refusedIn (bare s) 31)) where
-      pub opened-wrong : g ≡ true → (v ≡ 0 → ⊥) → Does (openedIn (sight s ks ls) v map) ks ls m ks ls
-      unfolding openedIn sight
-      opened-wrong t z = rw (lt-leb 2 v low, ← hh, ← gg, t, ne-eqb v 0 z) (refuses s 0 0 m ks ls 31 e)
+  pub closed-no : (k : ℕ) → k ≡ topAt ks (s .count) 9 → same (eqb v 0) (eqb k 0) ≡ true → m ≡ told (refusedIn (bare s) 31) → Does (closedIn (byKind s ks) v map) ks ls m ks ls
+  unfolding closedIn byKind
+  closed-no k kk t e = rw (← kk, t) (refuses s 0 0 m ks ls 31 e)
 
-      pub opened-false : g ≡ false → v ≡ 0 → Does (openedIn (sight s ks ls) v map) ks ls m ks ls
-      unfolding openedIn sight
-      opened-false t z = rw (lt-leb 2 v low, ← hh, ← gg, t, eq-eqb v 0 z) (refuses s 0 0 m ks ls 31 e)
+  module _ (next : ℕ) (e : m ≡ onTo (bare s) next (s .count)) (ks′ : List ℕ) where
+    pub repeated-false : v ≡ 0 → ks′ ≡ putIn ks (slotOf (s .count)) 3 → next ≡ noIn map (s .way) → Does (repeatedIn (byLabel s ls) v map) ks ls m ks′ ls
+    unfolding repeatedIn byLabel
+    repeated-false z kk q = rw (eq-eqb v 0 z) (rw q at (changes s next 0 m ks ls 3 ks′ e kk))
+
+    pub opened-again : (head : ℕ) → head ≡ headIn map (s .way) → (g : Bool) → g ≡ againIn (sight s ks ls) head → g ≡ true → v ≡ 0
+        → ks′ ≡ putIn ks (slotOf (s .count)) 2 → next ≡ yesIn map (s .way) → Does (openedIn (sight s ks ls) v map) ks ls m ks′ ls
+    unfolding openedIn sight byLabel
+    opened-again head hh g gg t z kk q = rw (← hh, ← gg, t, eq-eqb v 0 z, ← q) (changes s next 0 m ks ls 2 ks′ e kk)
+
+  module _ (head : ℕ) (hh : head ≡ headIn map (s .way)) (g : Bool) (gg : g ≡ againIn (sight s ks ls) head) (e : m ≡ told (refusedIn (bare s) 31)) where
+    pub opened-wrong : g ≡ true → (v ≡ 0 → ⊥) → Does (openedIn (sight s ks ls) v map) ks ls m ks ls
+    unfolding openedIn sight
+    opened-wrong t z = rw (← hh, ← gg, t, ne-eqb v 0 z) (refuses s 0 0 m ks ls 31 e)
+
+    pub opened-false : g ≡ false → v ≡ 0 → Does (openedIn (sight s ks ls) v map) ks ls m ks ls
+    unfolding openedIn sight
+    opened-false t z = rw (← hh, ← gg, t, eq-eqb v 0 z) (refuses s 0 0 m ks ls 31 e)
 
 module _ (s : Spot) (ks ls : List ℕ) (h k : ℕ) where
   pub again-yes : (l : ℕ) → k ≡ 3 → k ≡ topAt ks (s .count) 9 → l ≡ topAt ls (s .count) 0 → eqb l h ≡ againIn (sight s ks ls) h
@@ -213,7 +196,7 @@ module _ (s : Spot) (ks ls : List ℕ) (h k : ℕ) where
   unfolding sight
   again-no e kk = rw (← kk, ne-eqb k 3 e)
 
-pub ruleset acts = (chosen-stop, closed-stop, opened-stop, repeated-stop, chosen-else, chosen-then, closed-yes, closed-no, repeated-true, repeated-false, opened-true, opened-again, opened-wrong, opened-false, again-yes, again-no)
+pub ruleset acts = (chosen-else, chosen-then, closed-yes, closed-no, repeated-true, repeated-false, opened-true, opened-again, opened-wrong, opened-false, again-yes, again-no)
 
 -- ---- calls and returns
 module _ (s : Spot) (map : List ℕ) (m : Move) (ks ls : List ℕ) where
@@ -236,12 +219,12 @@ module _ (s : Spot) (map : List ℕ) (m : Move) (ks ls : List ℕ) where
       returned-on h ks′ ls′ d = rw (ne-eqb (s .calls) 0 nz, ← ll, lt-ltb l 1024 h) d
 
 module _ (s : Spot) (map ks ls ks′ ls′ : List ℕ) where
-  pub entered-yes : (n a l w x : ℕ) → s .calls < 64 → (n ≡ moreOf (s .count)) × ((ks′ ≡ putIn ks (s .count) 4) × (ls′ ≡ putIn ls (s .count) l)) → a ≡ firstIn map (s .way)
-      → l ≡ labelIn (s .way) → w ≡ x → x ≡ secondIn map (s .way)
+  pub entered-yes : (n a l w : ℕ) → s .calls < 64 → (n ≡ moreOf (s .count)) × ((ks′ ≡ putIn ks (s .count) 4) × (ls′ ≡ putIn ls (s .count) l)) → a ≡ firstIn map (s .way)
+      → l ≡ labelIn (s .way) → w ≡ secondIn map (s .way)
       → Does (enteredIn (bare s) map) ks ls (record { reason = 0; way = w; a = a; calls = s .calls + 1; count = n }) ks′ ls′
   unfolding enteredIn
-  entered-yes n a l w x h (nn, (kk, ll)) aa el ww xx =
-      rw (lt-leb 64 (s .calls) h, ← el) (record { made = rw (nn, aa, ww, xx); kinds = kk; labels = ll })
+  entered-yes n a l w h (nn, (kk, ll)) aa el ww =
+      rw (lt-leb 64 (s .calls) h, ← el) (record { made = rw (nn, aa, ww); kinds = kk; labels = ll })
 
   pub back-is : (l x side w n : ℕ) → w ≡ yesIn map (x + side) → x ≡ l → (n ≡ s .count - 1) × ((ks′ ≡ putIn ks (slotOf (s .count)) 0) × (ls′ ≡ putIn ls (slotOf (s .count)) 0))
       → Does (backIn (bare s) l side map) ks ls (record { reason = 0; way = w; a = l; calls = s .calls - 1; count = n }) ks′ ls′
@@ -262,42 +245,67 @@ module _ (s : Spot) (map : List ℕ) (n : ℕ) (m : Move) where
     after (ok σ′) l = record { made = h ∙ ap (λ n. told (assignedIn (bare s) n map)) (l .0); left = l .1 }
     after (no q) l = record { made = h ∙ ap (λ n. told (assignedIn (bare s) n map)) (l .0); left = l .1 }
 
-    module _ (at o t i k : ℕ) (ai : at ≡ i) (ii : i ≡ exprIn map (s .way)) (tk : t ≡ k) (kk : k ≡ secondIn map (s .way)) where
+    module _ (at o t : ℕ) (ii : at ≡ exprIn map (s .way)) (kk : t ≡ secondIn map (s .way)) where
       pub cell-is : Leaves (setCell f at t o arr σ) σ n τ → Sets (cellIn f map arr (bare s) σ o) m τ
       unfolding cellIn
-      cell-is l = rw (← ii, ← ai, ← kk, ← tk) (after (setCell f at t o arr σ) l)
+      cell-is l = rw (← ii, ← kk) (after (setCell f at t o arr σ) l)
 
       pub entry-set : (j : ℕ) → o ≡ j → j ≡ firstIn map (s .way) → Leaves (setEntry f at t o arr σ) σ n τ → Sets (entryIn f map arr (bare s) σ) m τ
       unfolding entryIn
-      entry-set j oj jj l = rw (← ii, ← ai, ← kk, ← tk, ← jj, ← oj) (after (setEntry f at t o arr σ) l)
+      entry-set j oj jj l = rw (← ii, ← kk, ← jj, ← oj) (after (setEntry f at t o arr σ) l)
 
 pub ruleset sets = (assigned-done, assigned-not, cell-is, entry-set)
 
 -- ---- `tested`; what asks for less than the whole frame answers the same of it
-module _ (s : Spot) (f arr map : List ℕ) (σ : Store) (m : Move) (ks ls ks′ ls′ : List ℕ) (a v at i : ℕ)
-    (vv : v ≡ truthOf (worthAt arr σ (within 32768 f at))) (ai : at ≡ i) (ii : i ≡ exprIn map (s .way)) where
+module _ (s : Spot) (f arr map : List ℕ) (σ : Store) (m : Move) (ks ls ks′ ls′ : List ℕ) (a v at : ℕ)
+    (vv : v ≡ truthOf (worthAt arr σ (within 32768 f at))) (ii : at ≡ exprIn map (s .way)) where
   abbrev Tells : Type 0
   Tells = Does (testedIn (sight s ks ls) a (truthOf (worthAt arr σ (within 32768 f (exprIn map (s .way))))) map) ks ls m ks′ ls′
 
-  pub tested-5 : a ≡ 5 → Does (chosenIn (bare s) v map) ks ls m ks′ ls′ → Tells
-  unfolding testedIn chosenIn sight
-  tested-5 e d = rw (← ii, ← ai, ← vv, eq-eqb a 5 e) d
+  module _ (low : v < 2) where
+    pub tested-5 : a ≡ 5 → Does (chosenIn (bare s) v map) ks ls m ks′ ls′ → Tells
+    unfolding testedIn chosenIn sight
+    tested-5 e d = rw (← ii, ← vv, eq-eqb a 5 e, lt-leb 2 v low) d
 
-  module _ (n5 : a ≡ 5 → ⊥) where
-    pub tested-7 : a ≡ 7 → Does (closedIn (byKind s ks) v map) ks ls m ks′ ls′ → Tells
+    pub tested-7 : (a ≡ 5 → ⊥) → a ≡ 7 → Does (closedIn (byKind s ks) v map) ks ls m ks′ ls′ → Tells
     unfolding testedIn closedIn byKind sight
-    tested-7 e d = rw (← ii, ← ai, ← vv, ne-eqb a 5 n5, eq-eqb a 7 e) d
+    tested-7 n5 e d = rw (← ii, ← vv, ne-eqb a 5 n5, eq-eqb a 7 e, lt-leb 2 v low) d
 
-    module _ (n7 : a ≡ 7 → ⊥) where
-      pub tested-8 : a ≡ 8 → Does (openedIn (sight s ks ls) v map) ks ls m ks′ ls′ → Tells
-      unfolding testedIn
-      tested-8 e d = rw (← ii, ← ai, ← vv, ne-eqb a 5 n5, ne-eqb a 7 n7, eq-eqb a 8 e) d
+    pub tested-8 : (a ≡ 5 → ⊥) → (a ≡ 7 → ⊥) → a ≡ 8 → Does (openedIn (sight s ks ls) v map) ks ls m ks′ ls′ → Tells
+    unfolding testedIn
+    tested-8 n5 n7 e d = rw (← ii, ← vv, ne-eqb a 5 n5, ne-eqb a 7 n7, eq-eqb a 8 e, lt-leb 2 v low) d
 
-      pub tested-10 : (a ≡ 8 → ⊥) → Does (repeatedIn (byLabel s ls) v map) ks ls m ks′ ls′ → Tells
-      unfolding testedIn repeatedIn byLabel sight
-      tested-10 n8 d = rw (← ii, ← ai, ← vv, ne-eqb a 5 n5, ne-eqb a 7 n7, ne-eqb a 8 n8) d
+    pub tested-10 : (a ≡ 5 → ⊥) → (a ≡ 7 → ⊥) → (a ≡ 8 → ⊥) → a ≡ 10 → Does (repeatedIn (byLabel s ls) v map) ks ls m ks′ ls′ → Tells
+    unfolding testedIn repeatedIn byLabel sight
+    tested-10 n5 n7 n8 e d = rw (← ii, ← vv, ne-eqb a 5 n5, ne-eqb a 7 n7, ne-eqb a 8 n8, eq-eqb a 10 e, lt-leb 2 v low) d
 
-pub ruleset tests = (tested-5, tested-7, tested-8, tested-10)
+  -- the expression is stopped
+  module _ (high : 2 ≤ v) (e : m ≡ told (refusedIn (bare s) v)) (kk : ks′ ≡ ks) (ll : ls′ ≡ ls) where
+    stopped : Does (refusedIn (bare s) v) ks ls m ks′ ls′
+    stopped = rw (kk, ll) (refuses s 0 0 m ks ls v e)
+
+    pub stopped-5 : a ≡ 5 → Tells
+    unfolding testedIn sight
+    stopped-5 e = rw (← ii, ← vv, eq-eqb a 5 e, le-leb 2 v high) stopped
+
+    pub stopped-7 : (a ≡ 5 → ⊥) → a ≡ 7 → Tells
+    unfolding testedIn sight
+    stopped-7 n5 e = rw (← ii, ← vv, ne-eqb a 5 n5, eq-eqb a 7 e, le-leb 2 v high) stopped
+
+    pub stopped-8 : (a ≡ 5 → ⊥) → (a ≡ 7 → ⊥) → a ≡ 8 → Tells
+    unfolding testedIn sight
+    stopped-8 n5 n7 e = rw (← ii, ← vv, ne-eqb a 5 n5, ne-eqb a 7 n7, eq-eqb a 8 e, le-leb 2 v high) stopped
+
+    pub stopped-10 : (a ≡ 5 → ⊥) → (a ≡ 7 → ⊥) → (a ≡ 8 → ⊥) → a ≡ 10 → Tells
+    unfolding testedIn sight
+    stopped-10 n5 n7 n8 e = rw (← ii, ← vv, ne-eqb a 5 n5, ne-eqb a 7 n7, ne-eqb a 8 n8, eq-eqb a 10 e, le-leb 2 v high) stopped
+
+pub skipped : (s : Spot) (v : ℕ) (map : List ℕ) (m : Move) (ks ls : List ℕ) (a next : ℕ) → (a ≡ 5 → ⊥) → (a ≡ 7 → ⊥) → (a ≡ 8 → ⊥) → (a ≡ 10 → ⊥) → m ≡ onTo (bare s) next (s .count)
+    → next ≡ yesIn map (s .way) → Does (testedIn (sight s ks ls) a v map) ks ls m ks ls
+unfolding testedIn sight
+skipped s v map m ks ls a next n5 n7 n8 n10 h n = rw (ne-eqb a 5 n5, ne-eqb a 7 n7, ne-eqb a 8 n8, ne-eqb a 10 n10, ← n) (keeps s next 0 m ks ls h)
+
+pub ruleset tests = (refl, tested-5, tested-7, tested-8, tested-10, stopped-5, stopped-7, stopped-8, stopped-10, skipped)
 
 -- ---- `decide`, by what the record met does
 -- a SET writes no slot
@@ -349,37 +357,31 @@ module _ (f map arr : List ℕ) (s : Spot) (ks ls : List ℕ) (σ : Store) (m : 
               (set-rules τ (setEntry f (exprIn map (s .way)) (secondIn map (s .way)) (firstIn map (s .way)) arr σ) d)
 
           module _ (n6 : a ≡ 6 → ⊥) where
-            pub does-skip : (next : ℕ) → a ≡ 13 → m ≡ onTo (bare s) next (s .count) → next ≡ yesIn map (s .way) → Decides ks ls σ
-            unfolding ruleIn sight
-            does-skip next e h n =
-                rw (lt-ltb (s .way) 2048 near, ← aa, ne-eqb a 4 n4, ne-eqb a 12 n12, ne-eqb a 14 n14, ne-eqb a 6 n6, eq-eqb a 13 e, ← n)
-                (record { does = keeps s next 0 m ks ls h; left = refl })
-
-            module _ (n13 : a ≡ 13 → ⊥) (ks′ ls′ : List ℕ) where
+            module _ (ks′ ls′ : List ℕ) where
               pub does-call : a ≡ 11 → Does (enteredIn (bare s) map) ks ls m ks′ ls′ → Decides ks′ ls′ σ
               unfolding ruleIn enteredIn sight
               does-call e d =
-                  rw (lt-ltb (s .way) 2048 near, ← aa, ne-eqb a 4 n4, ne-eqb a 12 n12, ne-eqb a 14 n14, ne-eqb a 6 n6, ne-eqb a 13 n13, eq-eqb a 11 e)
+                  rw (lt-ltb (s .way) 2048 near, ← aa, ne-eqb a 4 n4, ne-eqb a 12 n12, ne-eqb a 14 n14, ne-eqb a 6 n6, eq-eqb a 11 e)
                   (record { does = d; left = refl })
 
               module _ (n11 : a ≡ 11 → ⊥) where
                 pub does-down : a ≡ 3 → Does (returnedIn (byLabel s ls) 0 map) ks ls m ks′ ls′ → Decides ks′ ls′ σ
                 unfolding ruleIn returnedIn byLabel sight
                 does-down e d =
-                    rw (lt-ltb (s .way) 2048 near, ← aa, ne-eqb a 4 n4, ne-eqb a 12 n12, ne-eqb a 14 n14, ne-eqb a 6 n6, ne-eqb a 13 n13, ne-eqb a 11 n11, eq-eqb a 3 e)
+                    rw (lt-ltb (s .way) 2048 near, ← aa, ne-eqb a 4 n4, ne-eqb a 12 n12, ne-eqb a 14 n14, ne-eqb a 6 n6, ne-eqb a 11 n11, eq-eqb a 3 e)
                     (record { does = d; left = refl })
 
                 module _ (n3 : a ≡ 3 → ⊥) where
                   pub does-up : a ≡ 9 → Does (returnedIn (byLabel s ls) 1024 map) ks ls m ks′ ls′ → Decides ks′ ls′ σ
                   unfolding ruleIn returnedIn byLabel sight
                   does-up e d =
-                      rw (lt-ltb (s .way) 2048 near, ← aa, ne-eqb a 4 n4, ne-eqb a 12 n12, ne-eqb a 14 n14, ne-eqb a 6 n6, ne-eqb a 13 n13, ne-eqb a 11 n11, ne-eqb a 3 n3, eq-eqb a 9 e)
+                      rw (lt-ltb (s .way) 2048 near, ← aa, ne-eqb a 4 n4, ne-eqb a 12 n12, ne-eqb a 14 n14, ne-eqb a 6 n6, ne-eqb a 11 n11, ne-eqb a 3 n3, eq-eqb a 9 e)
                       (record { does = d; left = refl })
 
                   pub does-test : (a ≡ 9 → ⊥) → Does (testedIn (sight s ks ls) a (truthOf (worthAt arr σ (within 32768 f (exprIn map (s .way))))) map) ks ls m ks′ ls′ → Decides ks′ ls′ σ
                   unfolding ruleIn sight
                   does-test n9 d =
-                      rw (lt-ltb (s .way) 2048 near, ← aa, ne-eqb a 4 n4, ne-eqb a 12 n12, ne-eqb a 14 n14, ne-eqb a 6 n6, ne-eqb a 13 n13, ne-eqb a 11 n11, ne-eqb a 3 n3, ne-eqb a 9 n9)
+                      rw (lt-ltb (s .way) 2048 near, ← aa, ne-eqb a 4 n4, ne-eqb a 12 n12, ne-eqb a 14 n14, ne-eqb a 6 n6, ne-eqb a 11 n11, ne-eqb a 3 n3, ne-eqb a 9 n9)
                       (record { does = d; left = refl })
 
-pub ruleset rules = (does-far, does-add, does-subtract, does-exclude, does-entry, does-skip, does-call, does-down, does-up, does-test)
+pub ruleset rules = (does-far, does-add, does-subtract, does-exclude, does-entry, does-call, does-down, does-up, does-test)

@@ -14,7 +14,7 @@ use Rattle.moves.specs.Stores.{Answer, ok, no, number, Store}
 use Rattle.ways.specs.Looks.{operatorAt, lookIn, alongOf, otherOf, gateOf, procAt, resumedOf, wayTo}
 use Rattle.decide.specs.Sets.{setTo, setEntry, setAt}
 use Rattle.decide.specs.Decide.{Seen, Moved, moreOf, moving, truthOf, backOf, refusedOf, pushedOf, poppedOf, changedOf, chosenOf, closedOf, openedOf, repeatedOf, enteredTo, enteredOf, returnedOf, testedOf, assignedOf, ruled as tabled, afterSet as afterSetOf, ruleOf}
-use Rattle.decide.specs.Ways.{Sight, Doing, actIn, yesIn, noIn, firstIn, secondIn, exprIn, headIn, refusedIn, chosenIn, closedIn, openedIn, repeatedIn, enteredIn, returnedIn, testedIn, ruled, afterSet, setCell, cellIn, entryIn, ruleIn, sightOf, packedMove, packed}
+use Rattle.decide.specs.Ways.{Sight, Doing, actIn, yesIn, noIn, firstIn, secondIn, exprIn, headIn, refusedIn, chosenIn, closedIn, openedIn, repeatedIn, enteredIn, returnedIn, passedIn, testedIn, ruled, afterSet, setCell, cellIn, entryIn, ruleIn, sightOf, packedMove, packed}
 use Rattle.ways.specs.Map.{cellAct, actAt, onwardAt, gateAt, intoAt, firstAt, secondAt, exprAt, entryAt, Maps}
 use Rattle.ways.proofs.MapCases.{entry-0, entry-2, entry-4, entry-6, entry-8, entry-10, entry-12}
 
@@ -201,7 +201,7 @@ module _ (f tab arr m : List ℕ) (n : ℕ) (M : Maps f tab n m) (small : n ≤ 
   yes-skip e = rw e
 
   skips : K ≡ 13 → Agree
-  unfolding ruleIn ruleOf
+  unfolding ruleIn ruleOf testedIn
   skips e = rw (near, low, act, act-skip e, yes, yes-skip e, own, e)
 
   -- a call, in the direction d′
@@ -269,13 +269,13 @@ module _ (f tab arr m : List ℕ) (n : ℕ) (M : Maps f tab n m) (small : n ≤ 
 
   module _ (y : ℕ) (Y : onwardAt tab b d false ≡ wayTo (alongOf tab d y) d) (v : ℕ) where
     chooses : (z : ℕ) → onwardAt tab b d true ≡ wayTo (alongOf tab d z) d
-        → chosenIn s v m ≡ packedMove (cond (leb 2 v) (refusedOf S v) (cond (eqb v 0) (pushedOf S (alongOf tab d z) 1 H) (pushedOf S (alongOf tab d y) 0 H)))
+        → passedIn s v (chosenIn s v m) ≡ packedMove (cond (leb 2 v) (refusedOf S v) (cond (eqb v 0) (pushedOf S (alongOf tab d z) 1 H) (pushedOf S (alongOf tab d y) 0 H)))
     unfolding chosenIn
     chooses z Z =
         rw (nay, Z, yes, Y, head, own)
         (stops v _ (cond (eqb v 0) (pushedOf S (alongOf tab d z) 1 H) (pushedOf S (alongOf tab d y) 0 H)) (either (eqb v 0) (pushedOf S (alongOf tab d z) 1 H) (pushedOf S (alongOf tab d y) 0 H)))
 
-    opens : openedIn s v m ≡ packedMove (cond (leb 2 v) (refusedOf S v) (openedOf S v y tab))
+    opens : passedIn s v (openedIn s v m) ≡ packedMove (cond (leb 2 v) (refusedOf S v) (openedOf S v y tab))
     unfolding openedIn openedOf
     opens = rw (yes, Y, head, own) (stops v _ _ (go (cond (eqb kind 3) (eqb label H) false) (eqb v 0)))
       where
@@ -287,7 +287,7 @@ module _ (f tab arr m : List ℕ) (n : ℕ) (M : Maps f tab n m) (small : n ≤ 
         go false false = refl
 
   module _ (Y : onwardAt tab b d false ≡ wayTo (alongOf tab d b) d) (v : ℕ) where
-    closes : closedIn s v m ≡ packedMove (cond (leb 2 v) (refusedOf S v) (closedOf S v tab))
+    closes : passedIn s v (closedIn s v m) ≡ packedMove (cond (leb 2 v) (refusedOf S v) (closedOf S v tab))
     unfolding closedIn closedOf
     closes = rw (yes, Y, own) (stops v _ _ (go (eqb v 0) (eqb kind 0)))
       where
@@ -298,7 +298,7 @@ module _ (f tab arr m : List ℕ) (n : ℕ) (M : Maps f tab n m) (small : n ≤ 
         go false true = refl
         go false false = refl
 
-    repeats : (z : ℕ) → onwardAt tab b d true ≡ wayTo (alongOf tab d z) d → repeatedIn s v m ≡ packedMove (cond (leb 2 v) (refusedOf S v) (repeatedOf S v z tab))
+    repeats : (z : ℕ) → onwardAt tab b d true ≡ wayTo (alongOf tab d z) d → passedIn s v (repeatedIn s v m) ≡ packedMove (cond (leb 2 v) (refusedOf S v) (repeatedOf S v z tab))
     unfolding repeatedIn repeatedOf
     repeats z Z =
         rw (nay, Z, yes, Y, own)
@@ -405,27 +405,27 @@ module _ (f tab arr m : List ℕ) (n : ℕ) (M : Maps f tab n m) (small : n ≤ 
       abbrev Tests : ℕ → Type 0
       Tests a = (actAt f tab b d ≡ a) × ((v : ℕ) → testedIn s a v m ≡ packedMove (testedOf S K v tab))
 
-      testing : (a : ℕ) → (eqb a 4 ≡ false) × (eqb a 12 ≡ false) × (eqb a 14 ≡ false) × (eqb a 6 ≡ false) × (eqb a 13 ≡ false) × (eqb a 11 ≡ false) × (eqb a 3 ≡ false) × (eqb a 9 ≡ false)
+      testing : (a : ℕ) → (eqb a 4 ≡ false) × (eqb a 12 ≡ false) × (eqb a 14 ≡ false) × (eqb a 6 ≡ false) × (eqb a 11 ≡ false) × (eqb a 3 ≡ false) × (eqb a 9 ≡ false)
           → Tests a → Agree
       unfolding ruleIn ruleOf
-      testing a (a4, a12, a14, a6, a13, a11, a3, a9) T =
-          rw (near, low, act, T .0, a4, a12, a14, a6, a13, a11, a3, a9, e4, e13, e11, e12, e3, expr-in f tab m n M small b d hb hd, expr-test)
+      testing a (a4, a12, a14, a6, a11, a3, a9) T =
+          rw (near, low, act, T .0, a4, a12, a14, a6, a11, a3, a9, e4, e13, e11, e12, e3, expr-in f tab m n M small b d hb hd, expr-test)
           (by-move _ _ (T .1 (truthOf (worthAt arr σ (within 32768 f (lookIn tab b + 4))))))
 
       by-8 : eqb K 5 ≡ false → eqb K 7 ≡ false → (t u : Bool) → eqb K 8 ≡ t → eqb d 0 ≡ u → Agree
-      by-8 e5 e7 true true h D = testing 8 (refl, refl, refl, refl, refl, refl, refl, refl) (from-act (eqb-true K 8 h) true D, from-tests (eqb-true K 8 h) true D)
-      by-8 e5 e7 true false h D = testing 10 (refl, refl, refl, refl, refl, refl, refl, refl) (from-act (eqb-true K 8 h) false D, from-tests (eqb-true K 8 h) false D)
-      by-8 e5 e7 false true h D = testing 10 (refl, refl, refl, refl, refl, refl, refl, refl) (until-act e5 e7 h true D, until-tests e5 e7 h true D)
-      by-8 e5 e7 false false h D = testing 8 (refl, refl, refl, refl, refl, refl, refl, refl) (until-act e5 e7 h false D, until-tests e5 e7 h false D)
+      by-8 e5 e7 true true h D = testing 8 (refl, refl, refl, refl, refl, refl, refl) (from-act (eqb-true K 8 h) true D, from-tests (eqb-true K 8 h) true D)
+      by-8 e5 e7 true false h D = testing 10 (refl, refl, refl, refl, refl, refl, refl) (from-act (eqb-true K 8 h) false D, from-tests (eqb-true K 8 h) false D)
+      by-8 e5 e7 false true h D = testing 10 (refl, refl, refl, refl, refl, refl, refl) (until-act e5 e7 h true D, until-tests e5 e7 h true D)
+      by-8 e5 e7 false false h D = testing 8 (refl, refl, refl, refl, refl, refl, refl) (until-act e5 e7 h false D, until-tests e5 e7 h false D)
 
       by-7 : eqb K 5 ≡ false → (t u : Bool) → eqb K 7 ≡ t → eqb d 0 ≡ u → Agree
-      by-7 e5 true true h D = testing 7 (refl, refl, refl, refl, refl, refl, refl, refl) (fi-act (eqb-true K 7 h) true D, fi-tests (eqb-true K 7 h) true D)
-      by-7 e5 true false h D = testing 5 (refl, refl, refl, refl, refl, refl, refl, refl) (fi-act (eqb-true K 7 h) false D, fi-tests (eqb-true K 7 h) false D)
+      by-7 e5 true true h D = testing 7 (refl, refl, refl, refl, refl, refl, refl) (fi-act (eqb-true K 7 h) true D, fi-tests (eqb-true K 7 h) true D)
+      by-7 e5 true false h D = testing 5 (refl, refl, refl, refl, refl, refl, refl) (fi-act (eqb-true K 7 h) false D, fi-tests (eqb-true K 7 h) false D)
       by-7 e5 false u h D = by-8 e5 h (eqb K 8) u refl D
 
       by-5 : (t u : Bool) → eqb K 5 ≡ t → eqb d 0 ≡ u → Agree
-      by-5 true true h D = testing 5 (refl, refl, refl, refl, refl, refl, refl, refl) (if-act (eqb-true K 5 h) true D, if-tests (eqb-true K 5 h) true D)
-      by-5 true false h D = testing 7 (refl, refl, refl, refl, refl, refl, refl, refl) (if-act (eqb-true K 5 h) false D, if-tests (eqb-true K 5 h) false D)
+      by-5 true true h D = testing 5 (refl, refl, refl, refl, refl, refl, refl) (if-act (eqb-true K 5 h) true D, if-tests (eqb-true K 5 h) true D)
+      by-5 true false h D = testing 7 (refl, refl, refl, refl, refl, refl, refl) (if-act (eqb-true K 5 h) false D, if-tests (eqb-true K 5 h) false D)
       by-5 false u h D = by-7 h (eqb K 7) u refl D
 
   -- ---- the other kinds

@@ -113,16 +113,12 @@ changedIn s y k = moving 0 y (labelIn (s .way)) (s .calls) (s .count) (slotOf (s
 abbrev pub onTo : Sight → ℕ → ℕ → Move
 onTo s y n = record { reason = 0; way = y; a = labelIn (s .way); calls = s .calls; count = n }
 
--- ---- the acts; an expression that is stopped holds the number of its reason
-abbrev pub passedIn : Sight → ℕ → Doing → Doing
-passedIn s v d = cond (leb 2 v) (refusedIn s v) d
-
+-- ---- the acts
 unfoldable pub chosenIn : Sight → ℕ → List ℕ → Doing
-chosenIn s v m =
-    passedIn s v (cond (eqb v 0) (pushedIn s (noIn m (s .way)) 1 (headIn m (s .way))) (pushedIn s (yesIn m (s .way)) 0 (headIn m (s .way))))
+chosenIn s v m = cond (eqb v 0) (pushedIn s (noIn m (s .way)) 1 (headIn m (s .way))) (pushedIn s (yesIn m (s .way)) 0 (headIn m (s .way)))
 
 unfoldable pub closedIn : Sight → ℕ → List ℕ → Doing
-closedIn s v m = passedIn s v (cond (same (eqb v 0) (eqb (s .kind) 0)) (refusedIn s 31) (poppedIn s (yesIn m (s .way))))
+closedIn s v m = cond (same (eqb v 0) (eqb (s .kind) 0)) (refusedIn s 31) (poppedIn s (yesIn m (s .way)))
 
 -- the innermost frame is in s2 of the loop that is met
 abbrev pub againIn : Sight → ℕ → Bool
@@ -130,13 +126,12 @@ againIn s h = cond (eqb (s .kind) 3) (eqb (s .label) h) false
 
 unfoldable pub openedIn : Sight → ℕ → List ℕ → Doing
 openedIn s v m =
-    passedIn s v
-    (cond (againIn s (headIn m (s .way)))
+    cond (againIn s (headIn m (s .way)))
     (cond (eqb v 0) (changedIn s (yesIn m (s .way)) 2) (refusedIn s 31))
-    (cond (eqb v 0) (refusedIn s 31) (pushedIn s (yesIn m (s .way)) 2 (headIn m (s .way)))))
+    (cond (eqb v 0) (refusedIn s 31) (pushedIn s (yesIn m (s .way)) 2 (headIn m (s .way))))
 
 unfoldable pub repeatedIn : Sight → ℕ → List ℕ → Doing
-repeatedIn s v m = passedIn s v (cond (eqb v 0) (changedIn s (noIn m (s .way)) 3) (poppedIn s (yesIn m (s .way))))
+repeatedIn s v m = cond (eqb v 0) (changedIn s (noIn m (s .way)) 3) (poppedIn s (yesIn m (s .way)))
 
 unfoldable pub enteredIn : Sight → List ℕ → Doing
 enteredIn s m =
@@ -150,9 +145,18 @@ backIn s l side m = moving 0 (yesIn m (l + side)) l (s .calls - 1) (fewerOf (s .
 unfoldable pub returnedIn : Sight → ℕ → List ℕ → Doing
 returnedIn s side m = cond (eqb (s .calls) 0) (refusedIn s 30) (cond (ltb (s .label) 1024) (backIn s (s .label) side m) (refusedIn s 21))
 
--- the record met does a, and its expression holds v
+-- an expression that is stopped holds the number of its reason
+abbrev pub passedIn : Sight → ℕ → Doing → Doing
+passedIn s v d = cond (leb 2 v) (refusedIn s v) d
+
+-- the record met does a, and its expression holds v; one that does nothing is skipped
 unfoldable pub testedIn : Sight → ℕ → ℕ → List ℕ → Doing
-testedIn s a v m = cond (eqb a 5) (chosenIn s v m) (cond (eqb a 7) (closedIn s v m) (cond (eqb a 8) (openedIn s v m) (repeatedIn s v m)))
+testedIn s a v m =
+    cond (eqb a 5) (passedIn s v (chosenIn s v m))
+    (cond (eqb a 7) (passedIn s v (closedIn s v m))
+    (cond (eqb a 8) (passedIn s v (openedIn s v m))
+    (cond (eqb a 10) (passedIn s v (repeatedIn s v m))
+    (keptIn s (yesIn m (s .way))))))
 
 abbrev pub assignedIn : Sight → ℕ → List ℕ → Doing
 assignedIn s n m = cond (eqb n 0) (keptIn s (yesIn m (s .way))) (refusedIn s n)
@@ -198,11 +202,10 @@ ruleIn f m arr s σ =
     (cond (eqb (actIn m (s .way)) 12) (cellIn f m arr s σ 1)
     (cond (eqb (actIn m (s .way)) 14) (cellIn f m arr s σ 2)
     (cond (eqb (actIn m (s .way)) 6) (entryIn f m arr s σ)
-    (cond (eqb (actIn m (s .way)) 13) (ruled (keptIn s (yesIn m (s .way))) σ)
     (cond (eqb (actIn m (s .way)) 11) (ruled (enteredIn s m) σ)
     (cond (eqb (actIn m (s .way)) 3) (ruled (returnedIn s 0 m) σ)
     (cond (eqb (actIn m (s .way)) 9) (ruled (returnedIn s 1024 m) σ)
-    (ruled (testedIn s (actIn m (s .way)) (truthOf (worthAt arr σ (within 32768 f (exprIn m (s .way))))) m) σ)))))))))
+    (ruled (testedIn s (actIn m (s .way)) (truthOf (worthAt arr σ (within 32768 f (exprIn m (s .way))))) m) σ))))))))
     (ruled (refusedIn s 21) σ)
 
 -- ---- what is decided by the table, as it is said by the map

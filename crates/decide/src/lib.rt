@@ -12,7 +12,7 @@ ghost use lib.ListN.{getD};
 ghost use Rattle.expr.specs.Answers.{worthAt};
 ghost use Rattle.expr.specs.Bytes.{within};
 ghost use Rattle.decide.specs.Decide.{moreOf, fewerOf, slotOf, putIn, truthOf};
-ghost use Rattle.decide.specs.Ways.{bare, byKind, byLabel, sight, yesIn, noIn, exprIn, told, Does, onTo, refusedIn, chosenIn, closedIn, againIn, openedIn, repeatedIn, enteredIn, backIn, returnedIn, testedIn, assignedIn, Sets, cellIn, entryIn, Rules, ruleIn};
+ghost use Rattle.decide.specs.Ways.{bare, byKind, byLabel, sight, yesIn, noIn, secondIn, exprIn, told, Does, onTo, refusedIn, chosenIn, closedIn, againIn, openedIn, repeatedIn, enteredIn, backIn, returnedIn, testedIn, assignedIn, Sets, cellIn, entryIn, Rules, ruleIn};
 
 mod set;
 
@@ -101,6 +101,21 @@ fn elsewhere(map: &[u16; 14336], way: usize) -> usize
     wide(entry(map, 4096, way))
 }
 
+// Where its expression stands; and where a call leads, or what a SET writes: a cell, or an array.
+fn expression(map: &[u16; 14336], way: usize) -> usize
+    requires { ⌜ way < 2048 ⌝ }
+    ensures { λ r. ⌜ r ≡ exprIn (now (map .entry)) way ⌝ }
+{
+    wide(entry(map, 10240, way))
+}
+
+fn target(map: &[u16; 14336], way: usize) -> usize
+    requires { ⌜ way < 2048 ⌝ }
+    ensures { λ r. ⌜ r ≡ secondIn (now (map .entry)) way ⌝ }
+{
+    wide(entry(map, 8192, way))
+}
+
 // What the expression at `at` holds: 0 false, 1 true, else the document's number of what stops it.
 fn truth(bytes: &[u8; 32784], at: usize, arrays: &[u16; 32], cells: &[i32; 2048]) -> u8
     ensures { λ r. ⌜ r ≡ truthOf (worthAt (now (arrays .entry)) (now (cells .entry)) (within 32768 (now (bytes .entry)) at)) ⌝ }
@@ -147,9 +162,6 @@ impl Spot {
         requires { ⌜ self .way < 2048 ⌝ }
         ensures { λ r. ⌜ Does (chosenIn (bare self) v (now (map .entry))) (now (kinds .entry)) (now (labels .entry)) r (now (kinds .exit)) (now (labels .exit)) ⌝ }
     {
-        if 2 <= v {
-            return self.refused(v);
-        }
         let head = entry(map, 12288, self.way);
         if v == 0 {
             let next = elsewhere(map, self.way);
@@ -164,9 +176,6 @@ impl Spot {
         requires { ⌜ self .way < 2048 ⌝ }
         ensures { λ r. ⌜ Does (closedIn (byKind self (now (kinds .entry))) v (now (map .entry))) (now (kinds .entry)) (now (labels .entry)) r (now (kinds .exit)) (now (labels .exit)) ⌝ }
     {
-        if 2 <= v {
-            return self.refused(v);
-        }
         let kind = top_of(kinds, self.count, 9);
         // one test that nearly always holds, and none of the value by itself
         if (v == 0) == (kind == 0) {
@@ -192,9 +201,6 @@ impl Spot {
         requires { ⌜ self .way < 2048 ⌝ }
         ensures { λ r. ⌜ Does (openedIn (sight self (now (kinds .entry)) (now (labels .entry))) v (now (map .entry))) (now (kinds .entry)) (now (labels .entry)) r (now (kinds .exit)) (now (labels .exit)) ⌝ }
     {
-        if 2 <= v {
-            return self.refused(v);
-        }
         let head = entry(map, 12288, self.way);
         let next = onward(map, self.way);
         if self.again(head, kinds, labels) {
@@ -215,9 +221,6 @@ impl Spot {
         requires { ⌜ self .way < 2048 ⌝ }
         ensures { λ r. ⌜ Does (repeatedIn (byLabel self (now (labels .entry))) v (now (map .entry))) (now (kinds .entry)) (now (labels .entry)) r (now (kinds .exit)) (now (labels .exit)) ⌝ }
     {
-        if 2 <= v {
-            return self.refused(v);
-        }
         if v == 0 {
             let next = elsewhere(map, self.way);
             change(kinds, self.count, 3);
@@ -238,7 +241,7 @@ impl Spot {
         }
         let count = push(kinds, labels, self.count, 4, label_of(self.way));
         let a = entry(map, 6144, self.way);
-        let way = wide(entry(map, 8192, self.way));
+        let way = target(map, self.way);
         Move {
             reason: 0,
             way,
@@ -304,9 +307,8 @@ fn cell(
     requires { ⌜ s .way < 2048 ⌝ }
     ensures { λ r. ⌜ Sets (cellIn (now (bytes .entry)) (now (map .entry)) (now (arrays .entry)) (bare s) (now (cells .entry)) o) r (now (cells .exit)) ⌝ }
 {
-    let at = wide(entry(map, 10240, s.way));
-    let target = wide(entry(map, 8192, s.way));
-    let reason = set_cell(bytes, at, o, target, arrays, cells);
+    let at = expression(map, s.way);
+    let reason = set_cell(bytes, at, o, target(map, s.way), arrays, cells);
     s.assigned(reason, map)
 }
 
@@ -321,14 +323,14 @@ fn cell_of_array(
     requires { ⌜ s .way < 2048 ⌝ }
     ensures { λ r. ⌜ Sets (entryIn (now (bytes .entry)) (now (map .entry)) (now (arrays .entry)) (bare s) (now (cells .entry))) r (now (cells .exit)) ⌝ }
 {
-    let at = wide(entry(map, 10240, s.way));
+    let at = expression(map, s.way);
     let o = wide(entry(map, 6144, s.way));
-    let target = wide(entry(map, 8192, s.way));
-    let reason = set_entry(bytes, at, o, target, arrays, cells);
+    let reason = set_entry(bytes, at, o, target(map, s.way), arrays, cells);
     s.assigned(reason, map)
 }
 
-// A record that tests. Each act evaluates its expression by itself, so that the processor foresees each way on by itself.
+// A record that tests, or is skipped. Each test evaluates its expression by itself, so that the processor foresees each way on
+// by itself.
 fn tested(
     s: Spot,
     act: u16,
@@ -342,17 +344,35 @@ fn tested(
     requires { ⌜ s .way < 2048 ⌝ }
     ensures { λ r. ⌜ Does (testedIn (sight s (now (kinds .entry)) (now (labels .entry))) act (truthOf (worthAt (now (arrays .entry)) (now (cells .entry)) (within 32768 (now (bytes .entry)) (exprIn (now (map .entry)) (s .way))))) (now (map .entry))) (now (kinds .entry)) (now (labels .entry)) r (now (kinds .exit)) (now (labels .exit)) ⌝ }
 {
-    let at = wide(entry(map, 10240, s.way));
     if act == 5 {
-        return s.chosen(truth(bytes, at, arrays, cells), kinds, labels, map);
+        let v = truth(bytes, expression(map, s.way), arrays, cells);
+        if 2 <= v {
+            return s.refused(v);
+        }
+        return s.chosen(v, kinds, labels, map);
     }
     if act == 7 {
-        return s.closed(truth(bytes, at, arrays, cells), kinds, labels, map);
+        let v = truth(bytes, expression(map, s.way), arrays, cells);
+        if 2 <= v {
+            return s.refused(v);
+        }
+        return s.closed(v, kinds, labels, map);
     }
     if act == 8 {
-        return s.opened(truth(bytes, at, arrays, cells), kinds, labels, map);
+        let v = truth(bytes, expression(map, s.way), arrays, cells);
+        if 2 <= v {
+            return s.refused(v);
+        }
+        return s.opened(v, kinds, labels, map);
     }
-    s.repeated(truth(bytes, at, arrays, cells), kinds, labels, map)
+    if act == 10 {
+        let v = truth(bytes, expression(map, s.way), arrays, cells);
+        if 2 <= v {
+            return s.refused(v);
+        }
+        return s.repeated(v, kinds, labels, map);
+    }
+    s.on(onward(map, s.way), s.count)
 }
 
 // The decision. Only a SET writes the store; the frames are written in place.
@@ -383,9 +403,6 @@ pub fn decide(
     }
     if act == 6 {
         return cell_of_array(s, bytes, map, arrays, cells);
-    }
-    if act == 13 {
-        return s.on(onward(map, s.way), s.count);
     }
     if act == 11 {
         return s.entered(kinds, labels, map);

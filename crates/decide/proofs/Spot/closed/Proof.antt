@@ -9,8 +9,6 @@ closed-spec =
     tie.close
     (tie.spec
     (λ c κs. search needs)
-    (λ c. search acts)
-    (λ c κs. search needs)
     (λ c κs. search needs)
     (λ c. search acts)
     (λ c κs. search needs)
