@@ -158,7 +158,13 @@ impl Spot {
     }
 
     // IF down and FI up choose: true takes s1, false s2.
-    fn chosen(self, v: u8, kinds: &mut [u16; 1104], labels: &mut [u16; 1104], map: &[u16; 14336]) -> Move
+    fn chosen(
+        self,
+        v: u8,
+        kinds: &mut [u16; 1104],
+        labels: &mut [u16; 1104],
+        map: &[u16; 14336],
+    ) -> Move
         requires { ⌜ self .way < 2048 ⌝ }
         ensures { λ r. ⌜ Does (chosenIn (bare self) v (now (map .entry))) (now (kinds .entry)) (now (labels .entry)) r (now (kinds .exit)) (now (labels .exit)) ⌝ }
     {
@@ -172,7 +178,13 @@ impl Spot {
     }
 
     // IF up and FI down close: value and frame must agree.
-    fn closed(self, v: u8, kinds: &mut [u16; 1104], labels: &mut [u16; 1104], map: &[u16; 14336]) -> Move
+    fn closed(
+        self,
+        v: u8,
+        kinds: &mut [u16; 1104],
+        labels: &mut [u16; 1104],
+        map: &[u16; 14336],
+    ) -> Move
         requires { ⌜ self .way < 2048 ⌝ }
         ensures { λ r. ⌜ Does (closedIn (byKind self (now (kinds .entry))) v (now (map .entry))) (now (kinds .entry)) (now (labels .entry)) r (now (kinds .exit)) (now (labels .exit)) ⌝ }
     {
@@ -197,7 +209,13 @@ impl Spot {
     }
 
     // FROM down and UNTIL up open: true from outside, false from s2.
-    fn opened(self, v: u8, kinds: &mut [u16; 1104], labels: &mut [u16; 1104], map: &[u16; 14336]) -> Move
+    fn opened(
+        self,
+        v: u8,
+        kinds: &mut [u16; 1104],
+        labels: &mut [u16; 1104],
+        map: &[u16; 14336],
+    ) -> Move
         requires { ⌜ self .way < 2048 ⌝ }
         ensures { λ r. ⌜ Does (openedIn (sight self (now (kinds .entry)) (now (labels .entry))) v (now (map .entry))) (now (kinds .entry)) (now (labels .entry)) r (now (kinds .exit)) (now (labels .exit)) ⌝ }
     {
@@ -217,7 +235,13 @@ impl Spot {
     }
 
     // UNTIL down and FROM up test: true leaves the loop, false enters s2.
-    fn repeated(self, v: u8, kinds: &mut [u16; 1104], labels: &mut [u16; 1104], map: &[u16; 14336]) -> Move
+    fn repeated(
+        self,
+        v: u8,
+        kinds: &mut [u16; 1104],
+        labels: &mut [u16; 1104],
+        map: &[u16; 14336],
+    ) -> Move
         requires { ⌜ self .way < 2048 ⌝ }
         ensures { λ r. ⌜ Does (repeatedIn (byLabel self (now (labels .entry))) v (now (map .entry))) (now (kinds .entry)) (now (labels .entry)) r (now (kinds .exit)) (now (labels .exit)) ⌝ }
     {
@@ -252,7 +276,14 @@ impl Spot {
     }
 
     // Back at the calling record of a label, and on from there; `side` is the half of a section for the direction.
-    fn back_to(self, label: u16, side: usize, kinds: &mut [u16; 1104], labels: &mut [u16; 1104], map: &[u16; 14336]) -> Move
+    fn back_to(
+        self,
+        label: u16,
+        side: usize,
+        kinds: &mut [u16; 1104],
+        labels: &mut [u16; 1104],
+        map: &[u16; 14336],
+    ) -> Move
         requires { ⌜ (0 < self .calls) × ((label < 1024) × (side ≤ 1024)) ⌝ }
         ensures { λ r. ⌜ Does (backIn (bare self) label side (now (map .entry))) (now (kinds .entry)) (now (labels .entry)) r (now (kinds .exit)) (now (labels .exit)) ⌝ }
     {
@@ -268,7 +299,13 @@ impl Spot {
     }
 
     // END down and BEGIN up return to the calling record; none is left at the end of main.
-    fn returned(self, side: usize, kinds: &mut [u16; 1104], labels: &mut [u16; 1104], map: &[u16; 14336]) -> Move
+    fn returned(
+        self,
+        side: usize,
+        kinds: &mut [u16; 1104],
+        labels: &mut [u16; 1104],
+        map: &[u16; 14336],
+    ) -> Move
         requires { ⌜ side ≤ 1024 ⌝ }
         ensures { λ r. ⌜ Does (returnedIn (byLabel self (now (labels .entry))) side (now (map .entry))) (now (kinds .entry)) (now (labels .entry)) r (now (kinds .exit)) (now (labels .exit)) ⌝ }
     {

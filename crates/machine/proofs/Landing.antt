@@ -25,7 +25,6 @@ use Rattle.moves.proofs.View.{stack, view}
 use Rattle.table.proofs.Tabled.{Tabled}
 use Rattle.ways.specs.Looks.{alongOf}
 use Rattle.decide.specs.Decide.{Seen, Moved, moreOf, keptOf, pushedOf, poppedOf, changedOf, againOf, Ruled, ruled, putIn, slotOf}
-
 use Rattle.machine.proofs.Labels.{along-is}
 use Rattle.fits.proofs.Few.{room}
 
