@@ -21,7 +21,7 @@ use Rattle.moves.specs.Stores.{Answer, ok, no, number, reasonOf, Store}
 use Rattle.decide.specs.Sets.{faultOf, Leaves, setEntry}
 use Rattle.ways.specs.Looks.{labelIn}
 use Rattle.decide.specs.Decide.{moreOf, slotOf, putIn, truthOf}
-use Rattle.decide.specs.Ways.{Sight, Doing, sight, byKind, byLabel, bare, actIn, yesIn, noIn, firstIn, secondIn, exprIn, headIn, told, written, Does, onTo, refusedIn, keptIn, pushedIn, poppedIn, changedIn, chosenIn, closedIn, againIn, openedIn, repeatedIn, enteredIn, backIn, returnedIn, testedIn, assignedIn, Sets, Ruled, afterSet, setCell, cellIn, entryIn, Rules, ruleIn}
+use Rattle.decide.specs.Ways.{Sight, Doing, sight, byKind, byLabel, bare, actIn, yesIn, noIn, firstIn, secondIn, exprIn, headIn, told, written, Does, onTo, refusedIn, keptIn, pushedIn, poppedIn, changedIn, chosenIn, closedIn, againIn, openedIn, repeatedIn, enteredIn, backIn, returnedIn, loopedIn, testedIn, assignedIn, Sets, Ruled, afterSet, setCell, cellIn, entryIn, Rules, ruleIn}
 use Rattle.decide.specs.declared.Spot.{Spot}
 use Rattle.decide.specs.declared.Move.{Move}
 use Rattle.place.proofs.Cases.{top-none, top-over, top-here}
@@ -256,56 +256,60 @@ module _ (s : Spot) (map : List ℕ) (n : ℕ) (m : Move) where
 
 pub ruleset sets = (assigned-done, assigned-not, cell-is, entry-set)
 
--- ---- `tested`; what asks for less than the whole frame answers the same of it
-module _ (s : Spot) (f arr map : List ℕ) (σ : Store) (m : Move) (ks ls ks′ ls′ : List ℕ) (a v at : ℕ)
-    (vv : v ≡ truthOf (worthAt arr σ (within 32768 f at))) (ii : at ≡ exprIn map (s .way)) where
-  abbrev Tells : Type 0
-  Tells = Does (testedIn (sight s ks ls) a (truthOf (worthAt arr σ (within 32768 f (exprIn map (s .way))))) map) ks ls m ks′ ls′
+-- ---- `looped` and `tested`; what asks for less than the whole frame answers the same of it
+module _ (s : Spot) (f arr map : List ℕ) (σ : Store) (m : Move) (ks ls ks′ ls′ : List ℕ) (a : ℕ) where
+  abbrev Told : (Sight → ℕ → ℕ → List ℕ → Doing) → Type 0
+  Told X = Does (X (sight s ks ls) a (truthOf (worthAt arr σ (within 32768 f (exprIn map (s .way))))) map) ks ls m ks′ ls′
 
-  module _ (low : v < 2) where
-    pub tested-5 : a ≡ 5 → Does (chosenIn (bare s) v map) ks ls m ks′ ls′ → Tells
-    unfolding testedIn chosenIn sight
-    tested-5 e d = rw (← ii, ← vv, eq-eqb a 5 e, lt-leb 2 v low) d
+  module _ (v at : ℕ) (vv : v ≡ truthOf (worthAt arr σ (within 32768 f at))) (ii : at ≡ exprIn map (s .way)) where
+    module _ (low : v < 2) where
+      pub told-8 : a ≡ 8 → Does (openedIn (sight s ks ls) v map) ks ls m ks′ ls′ → Told loopedIn
+      unfolding loopedIn
+      told-8 e d = rw (← ii, ← vv, eq-eqb a 8 e, lt-leb 2 v low) d
 
-    pub tested-7 : (a ≡ 5 → ⊥) → a ≡ 7 → Does (closedIn (byKind s ks) v map) ks ls m ks′ ls′ → Tells
-    unfolding testedIn closedIn byKind sight
-    tested-7 n5 e d = rw (← ii, ← vv, ne-eqb a 5 n5, eq-eqb a 7 e, lt-leb 2 v low) d
+      pub told-10 : (a ≡ 8 → ⊥) → a ≡ 10 → Does (repeatedIn (byLabel s ls) v map) ks ls m ks′ ls′ → Told loopedIn
+      unfolding loopedIn repeatedIn byLabel sight
+      told-10 n8 e d = rw (← ii, ← vv, ne-eqb a 8 n8, eq-eqb a 10 e, lt-leb 2 v low) d
 
-    pub tested-8 : (a ≡ 5 → ⊥) → (a ≡ 7 → ⊥) → a ≡ 8 → Does (openedIn (sight s ks ls) v map) ks ls m ks′ ls′ → Tells
-    unfolding testedIn
-    tested-8 n5 n7 e d = rw (← ii, ← vv, ne-eqb a 5 n5, ne-eqb a 7 n7, eq-eqb a 8 e, lt-leb 2 v low) d
+      pub told-5 : a ≡ 5 → Does (chosenIn (bare s) v map) ks ls m ks′ ls′ → Told testedIn
+      unfolding testedIn chosenIn sight
+      told-5 e d = rw (← ii, ← vv, eq-eqb a 5 e, lt-leb 2 v low) d
 
-    pub tested-10 : (a ≡ 5 → ⊥) → (a ≡ 7 → ⊥) → (a ≡ 8 → ⊥) → a ≡ 10 → Does (repeatedIn (byLabel s ls) v map) ks ls m ks′ ls′ → Tells
-    unfolding testedIn repeatedIn byLabel sight
-    tested-10 n5 n7 n8 e d = rw (← ii, ← vv, ne-eqb a 5 n5, ne-eqb a 7 n7, ne-eqb a 8 n8, eq-eqb a 10 e, lt-leb 2 v low) d
+      pub told-7 : (a ≡ 5 → ⊥) → a ≡ 7 → Does (closedIn (byKind s ks) v map) ks ls m ks′ ls′ → Told testedIn
+      unfolding testedIn closedIn byKind sight
+      told-7 n5 e d = rw (← ii, ← vv, ne-eqb a 5 n5, eq-eqb a 7 e, lt-leb 2 v low) d
 
-  -- the expression is stopped
-  module _ (high : 2 ≤ v) (e : m ≡ told (refusedIn (bare s) v)) (kk : ks′ ≡ ks) (ll : ls′ ≡ ls) where
-    stopped : Does (refusedIn (bare s) v) ks ls m ks′ ls′
-    stopped = rw (kk, ll) (refuses s 0 0 m ks ls v e)
+    -- the expression is stopped
+    module _ (high : 2 ≤ v) (e : m ≡ told (refusedIn (bare s) v)) (kk : ks′ ≡ ks) (ll : ls′ ≡ ls) where
+      stopped : Does (refusedIn (bare s) v) ks ls m ks′ ls′
+      stopped = rw (kk, ll) (refuses s 0 0 m ks ls v e)
 
-    pub stopped-5 : a ≡ 5 → Tells
-    unfolding testedIn sight
-    stopped-5 e = rw (← ii, ← vv, eq-eqb a 5 e, le-leb 2 v high) stopped
+      pub stopped-8 : a ≡ 8 → Told loopedIn
+      unfolding loopedIn sight
+      stopped-8 e = rw (← ii, ← vv, eq-eqb a 8 e, le-leb 2 v high) stopped
 
-    pub stopped-7 : (a ≡ 5 → ⊥) → a ≡ 7 → Tells
-    unfolding testedIn sight
-    stopped-7 n5 e = rw (← ii, ← vv, ne-eqb a 5 n5, eq-eqb a 7 e, le-leb 2 v high) stopped
+      pub stopped-10 : (a ≡ 8 → ⊥) → a ≡ 10 → Told loopedIn
+      unfolding loopedIn sight
+      stopped-10 n8 e = rw (← ii, ← vv, ne-eqb a 8 n8, eq-eqb a 10 e, le-leb 2 v high) stopped
 
-    pub stopped-8 : (a ≡ 5 → ⊥) → (a ≡ 7 → ⊥) → a ≡ 8 → Tells
-    unfolding testedIn sight
-    stopped-8 n5 n7 e = rw (← ii, ← vv, ne-eqb a 5 n5, ne-eqb a 7 n7, eq-eqb a 8 e, le-leb 2 v high) stopped
+      pub stopped-5 : a ≡ 5 → Told testedIn
+      unfolding testedIn sight
+      stopped-5 e = rw (← ii, ← vv, eq-eqb a 5 e, le-leb 2 v high) stopped
 
-    pub stopped-10 : (a ≡ 5 → ⊥) → (a ≡ 7 → ⊥) → (a ≡ 8 → ⊥) → a ≡ 10 → Tells
-    unfolding testedIn sight
-    stopped-10 n5 n7 n8 e = rw (← ii, ← vv, ne-eqb a 5 n5, ne-eqb a 7 n7, ne-eqb a 8 n8, eq-eqb a 10 e, le-leb 2 v high) stopped
+      pub stopped-7 : (a ≡ 5 → ⊥) → a ≡ 7 → Told testedIn
+      unfolding testedIn sight
+      stopped-7 n5 e = rw (← ii, ← vv, ne-eqb a 5 n5, eq-eqb a 7 e, le-leb 2 v high) stopped
 
-pub skipped : (s : Spot) (v : ℕ) (map : List ℕ) (m : Move) (ks ls : List ℕ) (a next : ℕ) → (a ≡ 5 → ⊥) → (a ≡ 7 → ⊥) → (a ≡ 8 → ⊥) → (a ≡ 10 → ⊥) → m ≡ onTo (bare s) next (s .count)
-    → next ≡ yesIn map (s .way) → Does (testedIn (sight s ks ls) a v map) ks ls m ks ls
-unfolding testedIn sight
-skipped s v map m ks ls a next n5 n7 n8 n10 h n = rw (ne-eqb a 5 n5, ne-eqb a 7 n7, ne-eqb a 8 n8, ne-eqb a 10 n10, ← n) (keeps s next 0 m ks ls h)
+  pub told-on : (a ≡ 5 → ⊥) → (a ≡ 7 → ⊥) → Told loopedIn → Told testedIn
+  unfolding testedIn
+  told-on n5 n7 d = rw (ne-eqb a 5 n5, ne-eqb a 7 n7) d
 
-pub ruleset tests = (refl, tested-5, tested-7, tested-8, tested-10, stopped-5, stopped-7, stopped-8, stopped-10, skipped)
+pub skipped : (s : Spot) (v : ℕ) (map : List ℕ) (m : Move) (ks ls : List ℕ) (a next : ℕ) → (a ≡ 8 → ⊥) → (a ≡ 10 → ⊥) → m ≡ onTo (bare s) next (s .count)
+    → next ≡ yesIn map (s .way) → Does (loopedIn (sight s ks ls) a v map) ks ls m ks ls
+unfolding loopedIn sight
+skipped s v map m ks ls a next n8 n10 h n = rw (ne-eqb a 8 n8, ne-eqb a 10 n10, ← n) (keeps s next 0 m ks ls h)
+
+pub ruleset tests = (refl, told-8, told-10, told-5, told-7, stopped-8, stopped-10, stopped-5, stopped-7, told-on, skipped)
 
 -- ---- `decide`, by what the record met does
 -- a SET writes no slot

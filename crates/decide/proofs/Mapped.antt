@@ -14,7 +14,7 @@ use Rattle.moves.specs.Stores.{Answer, ok, no, number, Store}
 use Rattle.ways.specs.Looks.{operatorAt, lookIn, alongOf, otherOf, gateOf, procAt, resumedOf, wayTo}
 use Rattle.decide.specs.Sets.{setTo, setEntry, setAt}
 use Rattle.decide.specs.Decide.{Seen, Moved, moreOf, moving, truthOf, backOf, refusedOf, pushedOf, poppedOf, changedOf, chosenOf, closedOf, openedOf, repeatedOf, enteredTo, enteredOf, returnedOf, testedOf, assignedOf, ruled as tabled, afterSet as afterSetOf, ruleOf}
-use Rattle.decide.specs.Ways.{Sight, Doing, actIn, yesIn, noIn, firstIn, secondIn, exprIn, headIn, refusedIn, chosenIn, closedIn, openedIn, repeatedIn, enteredIn, returnedIn, passedIn, testedIn, ruled, afterSet, setCell, cellIn, entryIn, ruleIn, sightOf, packedMove, packed}
+use Rattle.decide.specs.Ways.{Sight, Doing, actIn, yesIn, noIn, firstIn, secondIn, exprIn, headIn, refusedIn, chosenIn, closedIn, openedIn, repeatedIn, enteredIn, returnedIn, passedIn, loopedIn, testedIn, ruled, afterSet, setCell, cellIn, entryIn, ruleIn, sightOf, packedMove, packed}
 use Rattle.ways.specs.Map.{cellAct, actAt, onwardAt, gateAt, intoAt, firstAt, secondAt, exprAt, entryAt, Maps}
 use Rattle.ways.proofs.MapCases.{entry-0, entry-2, entry-4, entry-6, entry-8, entry-10, entry-12}
 
@@ -201,7 +201,7 @@ module _ (f tab arr m : List ℕ) (n : ℕ) (M : Maps f tab n m) (small : n ≤ 
   yes-skip e = rw e
 
   skips : K ≡ 13 → Agree
-  unfolding ruleIn ruleOf testedIn
+  unfolding ruleIn ruleOf testedIn loopedIn
   skips e = rw (near, low, act, act-skip e, yes, yes-skip e, own, e)
 
   -- a call, in the direction d′
@@ -368,7 +368,7 @@ module _ (f tab arr m : List ℕ) (n : ℕ) (M : Maps f tab n m) (small : n ≤ 
     from-act false D = rw (e, D)
 
     from-tests : (t : Bool) → eqb d 0 ≡ t → (v : ℕ) → testedIn s (cond t 8 10) v m ≡ packedMove (testedOf S K v tab)
-    unfolding testedIn testedOf
+    unfolding testedIn loopedIn testedOf
     from-tests true D v = rw (e, D) (opens b (from-yes true D) v)
     from-tests false D v = rw (e, D) (repeats (from-yes false D) v (lookIn tab (4096 + b)) (from-up-no D))
 
@@ -392,7 +392,7 @@ module _ (f tab arr m : List ℕ) (n : ℕ) (M : Maps f tab n m) (small : n ≤ 
       until-act false D = rw (e4, e13, e11, e12, e3, e5, e7, e8, D)
 
       until-tests : (t : Bool) → eqb d 0 ≡ t → (v : ℕ) → testedIn s (cond t 10 8) v m ≡ packedMove (testedOf S K v tab)
-      unfolding testedIn testedOf
+      unfolding testedIn loopedIn testedOf
       until-tests true D v = rw (e5, e7, e8, D) (repeats (until-yes D) v (lookIn tab (3072 + b)) (until-no D))
       until-tests false D v = rw (e5, e7, e8, D) (opens (lookIn tab (3072 + b)) (until-up-yes D) v)
 

@@ -149,14 +149,15 @@ returnedIn s side m = cond (eqb (s .calls) 0) (refusedIn s 30) (cond (ltb (s .la
 abbrev pub passedIn : Sight → ℕ → Doing → Doing
 passedIn s v d = cond (leb 2 v) (refusedIn s v) d
 
--- the record met does a, and its expression holds v; one that does nothing is skipped
-unfoldable pub testedIn : Sight → ℕ → ℕ → List ℕ → Doing
-testedIn s a v m =
-    cond (eqb a 5) (passedIn s v (chosenIn s v m))
-    (cond (eqb a 7) (passedIn s v (closedIn s v m))
-    (cond (eqb a 8) (passedIn s v (openedIn s v m))
+-- the record met does a, and its expression holds v; one that does none of this is skipped
+unfoldable pub loopedIn : Sight → ℕ → ℕ → List ℕ → Doing
+loopedIn s a v m =
+    cond (eqb a 8) (passedIn s v (openedIn s v m))
     (cond (eqb a 10) (passedIn s v (repeatedIn s v m))
-    (keptIn s (yesIn m (s .way))))))
+    (keptIn s (yesIn m (s .way))))
+
+unfoldable pub testedIn : Sight → ℕ → ℕ → List ℕ → Doing
+testedIn s a v m = cond (eqb a 5) (passedIn s v (chosenIn s v m)) (cond (eqb a 7) (passedIn s v (closedIn s v m)) (loopedIn s a v m))
 
 abbrev pub assignedIn : Sight → ℕ → List ℕ → Doing
 assignedIn s n m = cond (eqb n 0) (keptIn s (yesIn m (s .way))) (refusedIn s n)

@@ -12,7 +12,7 @@ ghost use lib.ListN.{getD};
 ghost use Rattle.expr.specs.Answers.{worthAt};
 ghost use Rattle.expr.specs.Bytes.{within};
 ghost use Rattle.decide.specs.Decide.{moreOf, fewerOf, slotOf, putIn, truthOf};
-ghost use Rattle.decide.specs.Ways.{bare, byKind, byLabel, sight, yesIn, noIn, secondIn, exprIn, told, Does, onTo, refusedIn, chosenIn, closedIn, againIn, openedIn, repeatedIn, enteredIn, backIn, returnedIn, testedIn, assignedIn, Sets, cellIn, entryIn, Rules, ruleIn};
+ghost use Rattle.decide.specs.Ways.{bare, byKind, byLabel, sight, yesIn, noIn, secondIn, exprIn, told, Does, onTo, refusedIn, chosenIn, closedIn, againIn, openedIn, repeatedIn, enteredIn, backIn, returnedIn, loopedIn, testedIn, assignedIn, Sets, cellIn, entryIn, Rules, ruleIn};
 
 mod set;
 
@@ -366,8 +366,39 @@ fn cell_of_array(
     s.assigned(reason, map)
 }
 
-// A record that tests, or is skipped. Each test evaluates its expression by itself, so that the processor foresees each way on
-// by itself.
+// A loop's record, or one that is skipped. Here and in `tested` each act evaluates its expression by itself, so that the processor
+// foresees each way on by itself.
+fn looped(
+    s: Spot,
+    act: u16,
+    kinds: &mut [u16; 1104],
+    labels: &mut [u16; 1104],
+    bytes: &[u8; 32784],
+    map: &[u16; 14336],
+    arrays: &[u16; 32],
+    cells: &[i32; 2048],
+) -> Move
+    requires { ⌜ s .way < 2048 ⌝ }
+    ensures { λ r. ⌜ Does (loopedIn (sight s (now (kinds .entry)) (now (labels .entry))) act (truthOf (worthAt (now (arrays .entry)) (now (cells .entry)) (within 32768 (now (bytes .entry)) (exprIn (now (map .entry)) (s .way))))) (now (map .entry))) (now (kinds .entry)) (now (labels .entry)) r (now (kinds .exit)) (now (labels .exit)) ⌝ }
+{
+    if act == 8 {
+        let v = truth(bytes, expression(map, s.way), arrays, cells);
+        if 2 <= v {
+            return s.refused(v);
+        }
+        return s.opened(v, kinds, labels, map);
+    }
+    if act == 10 {
+        let v = truth(bytes, expression(map, s.way), arrays, cells);
+        if 2 <= v {
+            return s.refused(v);
+        }
+        return s.repeated(v, kinds, labels, map);
+    }
+    s.on(onward(map, s.way), s.count)
+}
+
+// A record that tests, or is skipped.
 fn tested(
     s: Spot,
     act: u16,
@@ -395,21 +426,7 @@ fn tested(
         }
         return s.closed(v, kinds, labels, map);
     }
-    if act == 8 {
-        let v = truth(bytes, expression(map, s.way), arrays, cells);
-        if 2 <= v {
-            return s.refused(v);
-        }
-        return s.opened(v, kinds, labels, map);
-    }
-    if act == 10 {
-        let v = truth(bytes, expression(map, s.way), arrays, cells);
-        if 2 <= v {
-            return s.refused(v);
-        }
-        return s.repeated(v, kinds, labels, map);
-    }
-    s.on(onward(map, s.way), s.count)
+    looped(s, act, kinds, labels, bytes, map, arrays, cells)
 }
 
 // The decision. Only a SET writes the store; the frames are written in place.
