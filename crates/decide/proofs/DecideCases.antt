@@ -2,10 +2,10 @@
 use mathlib.Core.Path.{_≡_, refl, sym, ap, _∙_}
 use mathlib.Core.List.{List}
 use mathlib.Core.Bool.{Bool, true, false, cond, Bool·beq as same}
-use Prim.Native.Nat.{ℕ, zero, suc, _+_, _-_, _≤_, _<_}
+use Prim.Native.Nat.{ℕ, zero, suc, _+_, _-_, _*_, _/_, _%_, _≤_, _<_}
 use native.Mathlib.Omega.{arith}
-use borrow.Author.Tests.{eq-eqb, ne-eqb, lt-ltb, le-ltb, le-leb, lt-leb, eqb-true, eqb-false, leb-true, leb-false}
-use lib.Dec.{eqb, leb}
+use borrow.Author.Tests.{eq-eqb, ne-eqb, lt-ltb, le-ltb, le-leb, lt-leb, eqb-true, eqb-false, leb-true, leb-false, ltb-true}
+use lib.Dec.{eqb, leb, ltb}
 use lib.IntN.{ℤ, pos, negsuc}
 use lib.ListN.{getD, set}
 use lib.Seq.{set-getD}
@@ -20,8 +20,8 @@ use Rattle.place.specs.Methods.{topAt}
 use Rattle.moves.specs.Stores.{Answer, ok, no, number, reasonOf, Store}
 use Rattle.decide.specs.Sets.{faultOf, Leaves, setEntry}
 use Rattle.ways.specs.Looks.{labelIn}
-use Rattle.decide.specs.Decide.{moreOf, slotOf, putIn, truthOf}
-use Rattle.decide.specs.Ways.{Sight, Doing, sight, byKind, byLabel, bare, actIn, yesIn, noIn, firstIn, secondIn, exprIn, headIn, told, written, Does, onTo, refusedIn, keptIn, pushedIn, poppedIn, changedIn, chosenIn, closedIn, againIn, openedIn, repeatedIn, enteredIn, backIn, returnedIn, loopedIn, testedIn, assignedIn, Sets, Ruled, afterSet, setCell, cellIn, entryIn, Rules, ruleIn}
+use Rattle.decide.specs.Decide.{moreOf, fewerOf, slotOf, putIn, truthOf}
+use Rattle.decide.specs.Ways.{depthOf, callsIn, countIn, Sight, Doing, sight, byKind, byLabel, bare, actIn, yesIn, noIn, firstIn, secondIn, exprIn, headIn, told, written, Does, onTo, refusedIn, keptIn, pushedIn, poppedIn, changedIn, chosenIn, closedIn, againIn, openedIn, repeatedIn, enteredIn, backIn, returnedIn, loopedIn, testedIn, assignedIn, Sets, Ruled, afterSet, setCell, cellIn, entryIn, Rules, ruleIn}
 use Rattle.decide.specs.declared.Spot.{Spot}
 use Rattle.decide.specs.declared.Move.{Move}
 use Rattle.place.proofs.Cases.{top-none, top-over, top-here}
@@ -31,16 +31,46 @@ abbrev again64 : ℤ → ℤ
 again64 z = toZ w64 (ofZ w64 z)
 
 -- ---- small functions
-pub more-yes : (n : ℕ) → n < 1104 → n + 1 ≡ moreOf n
+more-yes : (n : ℕ) → n < 1104 → n + 1 ≡ moreOf n
 more-yes n h = rw (lt-ltb n 1104 h)
 
-pub more-no : (n : ℕ) → 1104 ≤ n → n ≡ moreOf n
+more-no : (n : ℕ) → 1104 ≤ n → n ≡ moreOf n
 more-no n h = rw (le-ltb n 1104 h)
 
 pub entry-is : (m : List ℕ) (n w x r : ℕ) → r ≡ x → x ≡ getD m (n + w) 0 → r ≡ getD m (n + w) 0
 entry-is m n w x r e h = e ∙ h
 
-pub ruleset smalls = (more-yes, more-no, entry-is)
+pub ruleset smalls = (entry-is)
+
+-- ---- calls and frames in one number
+together : (d : ℕ) → d ≡ depthOf (callsIn d) (countIn d)
+together d = omega arith
+
+more-small : (n : ℕ) → n < 4096 → moreOf n < 4096
+more-small n h = go (ltb n 1104) refl
+  where
+    go : (t : Bool) → ltb n 1104 ≡ t → moreOf n < 4096
+    go true e = rw e (omega (arith, ltb-true n 1104 e))
+    go false e = rw e h
+
+module _ (d : ℕ) where
+  pub depth-more : countIn d < 1104 → d + 1 ≡ depthOf (callsIn d) (moreOf (countIn d))
+  depth-more h = rw (← more-yes (countIn d) h) (omega arith)
+
+  pub depth-full : 1104 ≤ countIn d → d ≡ depthOf (callsIn d) (moreOf (countIn d))
+  depth-full h = rw (← more-no (countIn d) h) (omega arith)
+
+  pub depth-none : countIn d ≡ 0 → d ≡ depthOf (callsIn d) (fewerOf (countIn d))
+  depth-none h = omega arith
+
+  pub depth-fewer : (countIn d ≡ 0 → ⊥) → d - 1 ≡ depthOf (callsIn d) (fewerOf (countIn d))
+  depth-fewer h = omega arith
+
+-- another call fits
+pub pushed-small : (d r : ℕ) → r ≡ depthOf (callsIn d) (moreOf (countIn d)) → d < 262144 → r < 266240
+pushed-small d r e h = omega (arith, more-small (countIn d) (omega arith))
+
+pub ruleset depths = (depth-more, depth-full, depth-none, depth-fewer)
 
 -- ---- `truth`
 zero-bits : (r : ℤ) → SFits w32 r → ofZ w64 r ≡ 0 → r ≡ pos 0
@@ -114,67 +144,78 @@ unwritten s v false = refl
 
 -- ---- the frames
 module _ (s : Spot) (y n : ℕ) (m : Move) (ks ls : List ℕ) where
-  refuses : (r : ℕ) → m ≡ told (refusedIn (bare s) r) → Does (refusedIn (bare s) r) ks ls m ks ls
-  refuses r e = record { made = e; kinds = unwritten ks 0 (eqb r 0); labels = unwritten ls 0 (eqb r 0) }
+  abbrev C : ℕ
+  C = countIn (s .depth)
 
-  keeps : m ≡ onTo (bare s) y (s .count) → Does (keptIn (bare s) y) ks ls m ks ls
-  keeps e = record { made = e; kinds = unwritten ks 0 true; labels = unwritten ls 0 true }
+  below : C < 4096
+  below = omega arith
+
+  refuses : (r : ℕ) → m ≡ told (refusedIn (bare s) r) → Does (refusedIn (bare s) r) ks ls m ks ls
+  refuses r e = record { made = e; small = below; kinds = unwritten ks 0 (eqb r 0); labels = unwritten ls 0 (eqb r 0) }
+
+  keeps : m ≡ onTo (bare s) y (s .depth) → Does (keptIn (bare s) y) ks ls m ks ls
+  keeps e = record { made = e ∙ ap (onTo (bare s) y) (together (s .depth)); small = below; kinds = unwritten ks 0 true; labels = unwritten ls 0 true }
 
   module _ (e : m ≡ onTo (bare s) y n) (ks′ ls′ : List ℕ) where
-    pushes : (k l : ℕ) → (n ≡ moreOf (s .count)) × ((ks′ ≡ putIn ks (s .count) k) × (ls′ ≡ putIn ls (s .count) l)) → Does (pushedIn (bare s) y k l) ks ls m ks′ ls′
-    pushes k l (nn, (kk, ll)) = record { made = rw (← nn) e; kinds = kk; labels = ll }
+    pushes : (k l : ℕ) → (n ≡ depthOf (callsIn (s .depth)) (moreOf C)) × ((ks′ ≡ putIn ks C k) × (ls′ ≡ putIn ls C l)) → Does (pushedIn (bare s) y k l) ks ls m ks′ ls′
+    pushes k l (nn, (kk, ll)) = record { made = e ∙ ap (onTo (bare s) y) nn; small = more-small C below; kinds = kk; labels = ll }
 
-    pops : (n ≡ s .count - 1) × ((ks′ ≡ putIn ks (slotOf (s .count)) 0) × (ls′ ≡ putIn ls (slotOf (s .count)) 0)) → Does (poppedIn (bare s) y) ks ls m ks′ ls′
-    pops (nn, (kk, ll)) = record { made = rw (← nn) e; kinds = kk; labels = ll }
+    pops : (n ≡ depthOf (callsIn (s .depth)) (C - 1)) × ((ks′ ≡ putIn ks (slotOf C) 0) × (ls′ ≡ putIn ls (slotOf C) 0)) → Does (poppedIn (bare s) y) ks ls m ks′ ls′
+    pops (nn, (kk, ll)) = record { made = e ∙ ap (onTo (bare s) y) nn; small = omega arith; kinds = kk; labels = ll }
 
-  changes : (k : ℕ) (ks′ : List ℕ) → m ≡ onTo (bare s) y (s .count) → ks′ ≡ putIn ks (slotOf (s .count)) k → Does (changedIn (byLabel s ls) y k) ks ls m ks′ ls
+  changes : (k : ℕ) (ks′ : List ℕ) → m ≡ onTo (bare s) y (s .depth) → ks′ ≡ putIn ks (slotOf C) k → Does (changedIn (byLabel s ls) y k) ks ls m ks′ ls
   unfolding byLabel
-  changes k ks′ e kk = record { made = e; kinds = kk; labels = same-top ls (s .count) }
+  changes k ks′ e kk = record { made = e ∙ ap (onTo (bare s) y) (together (s .depth)); small = below; kinds = kk; labels = same-top ls C }
 
-pub on-is : (s : Spot) (y a n : ℕ) → a ≡ labelIn (s .way) → _≡_ {A = Move} (record { reason = 0; way = y; a = a; calls = s .calls; count = n }) (onTo (bare s) y n)
+pub refused-is : (s : Spot) (r : ℕ) → _≡_ {A = Move} (record { reason = r; way = s .way; a = 0; depth = s .depth }) (told (refusedIn (bare s) r))
+refused-is s r = λ i. record { reason = r; way = s .way; a = 0; depth = together (s .depth) i }
+
+pub on-is : (s : Spot) (y a n : ℕ) → a ≡ labelIn (s .way) → _≡_ {A = Move} (record { reason = 0; way = y; a = a; depth = n }) (onTo (bare s) y n)
 on-is s y a n e = rw e
+
+pub ruleset moves = (refused-is, on-is)
 
 -- ---- the acts; ks and ls are the slots, ks′ and ls′ afterwards
 module _ (s : Spot) (v : ℕ) (map : List ℕ) (m : Move) (ks ls : List ℕ) where
   module _ (next n : ℕ) (e : m ≡ onTo (bare s) next n) (ks′ ls′ : List ℕ) where
     module _ (head : ℕ) (hh : head ≡ headIn map (s .way)) where
-      pub chosen-else : v ≡ 0 → (n ≡ moreOf (s .count)) × ((ks′ ≡ putIn ks (s .count) 1) × (ls′ ≡ putIn ls (s .count) head)) → next ≡ noIn map (s .way)
+      pub chosen-else : v ≡ 0 → (n ≡ depthOf (callsIn (s .depth)) (moreOf (countIn (s .depth)))) × ((ks′ ≡ putIn ks (countIn (s .depth)) 1) × (ls′ ≡ putIn ls (countIn (s .depth)) head)) → next ≡ noIn map (s .way)
           → Does (chosenIn (bare s) v map) ks ls m ks′ ls′
       unfolding chosenIn
       chosen-else z p q = rw (eq-eqb v 0 z, ← q, ← hh) (pushes s next n m ks ls e ks′ ls′ 1 head p)
 
-      pub chosen-then : (v ≡ 0 → ⊥) → (n ≡ moreOf (s .count)) × ((ks′ ≡ putIn ks (s .count) 0) × (ls′ ≡ putIn ls (s .count) head)) → next ≡ yesIn map (s .way)
+      pub chosen-then : (v ≡ 0 → ⊥) → (n ≡ depthOf (callsIn (s .depth)) (moreOf (countIn (s .depth)))) × ((ks′ ≡ putIn ks (countIn (s .depth)) 0) × (ls′ ≡ putIn ls (countIn (s .depth)) head)) → next ≡ yesIn map (s .way)
           → Does (chosenIn (bare s) v map) ks ls m ks′ ls′
       unfolding chosenIn
       chosen-then z p q = rw (ne-eqb v 0 z, ← q, ← hh) (pushes s next n m ks ls e ks′ ls′ 0 head p)
 
-    pub closed-yes : (k : ℕ) → k ≡ topAt ks (s .count) 9 → same (eqb v 0) (eqb k 0) ≡ false
-        → (n ≡ s .count - 1) × ((ks′ ≡ putIn ks (slotOf (s .count)) 0) × (ls′ ≡ putIn ls (slotOf (s .count)) 0)) → next ≡ yesIn map (s .way)
+    pub closed-yes : (k : ℕ) → k ≡ topAt ks (countIn (s .depth)) 9 → same (eqb v 0) (eqb k 0) ≡ false
+        → (n ≡ depthOf (callsIn (s .depth)) (countIn (s .depth) - 1)) × ((ks′ ≡ putIn ks (slotOf (countIn (s .depth))) 0) × (ls′ ≡ putIn ls (slotOf (countIn (s .depth))) 0)) → next ≡ yesIn map (s .way)
         → Does (closedIn (byKind s ks) v map) ks ls m ks′ ls′
     unfolding closedIn byKind
     closed-yes k kk t p q = rw (← kk, t, ← q) (pops s next n m ks ls e ks′ ls′ p)
 
-    pub repeated-true : (v ≡ 0 → ⊥) → (n ≡ s .count - 1) × ((ks′ ≡ putIn ks (slotOf (s .count)) 0) × (ls′ ≡ putIn ls (slotOf (s .count)) 0)) → next ≡ yesIn map (s .way)
+    pub repeated-true : (v ≡ 0 → ⊥) → (n ≡ depthOf (callsIn (s .depth)) (countIn (s .depth) - 1)) × ((ks′ ≡ putIn ks (slotOf (countIn (s .depth))) 0) × (ls′ ≡ putIn ls (slotOf (countIn (s .depth))) 0)) → next ≡ yesIn map (s .way)
         → Does (repeatedIn (byLabel s ls) v map) ks ls m ks′ ls′
     unfolding repeatedIn byLabel
     repeated-true z p q = rw (ne-eqb v 0 z, ← q) (pops s next n m ks ls e ks′ ls′ p)
 
     pub opened-true : (head : ℕ) → head ≡ headIn map (s .way) → (g : Bool) → g ≡ againIn (sight s ks ls) head → g ≡ false → (v ≡ 0 → ⊥)
-        → (n ≡ moreOf (s .count)) × ((ks′ ≡ putIn ks (s .count) 2) × (ls′ ≡ putIn ls (s .count) head)) → next ≡ yesIn map (s .way) → Does (openedIn (sight s ks ls) v map) ks ls m ks′ ls′
+        → (n ≡ depthOf (callsIn (s .depth)) (moreOf (countIn (s .depth)))) × ((ks′ ≡ putIn ks (countIn (s .depth)) 2) × (ls′ ≡ putIn ls (countIn (s .depth)) head)) → next ≡ yesIn map (s .way) → Does (openedIn (sight s ks ls) v map) ks ls m ks′ ls′
     unfolding openedIn sight
     opened-true head hh g gg t z p q = rw (← hh, ← gg, t, ne-eqb v 0 z, ← q) (pushes s next n m ks ls e ks′ ls′ 2 head p)
 
-  pub closed-no : (k : ℕ) → k ≡ topAt ks (s .count) 9 → same (eqb v 0) (eqb k 0) ≡ true → m ≡ told (refusedIn (bare s) 31) → Does (closedIn (byKind s ks) v map) ks ls m ks ls
+  pub closed-no : (k : ℕ) → k ≡ topAt ks (countIn (s .depth)) 9 → same (eqb v 0) (eqb k 0) ≡ true → m ≡ told (refusedIn (bare s) 31) → Does (closedIn (byKind s ks) v map) ks ls m ks ls
   unfolding closedIn byKind
   closed-no k kk t e = rw (← kk, t) (refuses s 0 0 m ks ls 31 e)
 
-  module _ (next : ℕ) (e : m ≡ onTo (bare s) next (s .count)) (ks′ : List ℕ) where
-    pub repeated-false : v ≡ 0 → ks′ ≡ putIn ks (slotOf (s .count)) 3 → next ≡ noIn map (s .way) → Does (repeatedIn (byLabel s ls) v map) ks ls m ks′ ls
+  module _ (next : ℕ) (e : m ≡ onTo (bare s) next (s .depth)) (ks′ : List ℕ) where
+    pub repeated-false : v ≡ 0 → ks′ ≡ putIn ks (slotOf (countIn (s .depth))) 3 → next ≡ noIn map (s .way) → Does (repeatedIn (byLabel s ls) v map) ks ls m ks′ ls
     unfolding repeatedIn byLabel
     repeated-false z kk q = rw (eq-eqb v 0 z) (rw q at (changes s next 0 m ks ls 3 ks′ e kk))
 
     pub opened-again : (head : ℕ) → head ≡ headIn map (s .way) → (g : Bool) → g ≡ againIn (sight s ks ls) head → g ≡ true → v ≡ 0
-        → ks′ ≡ putIn ks (slotOf (s .count)) 2 → next ≡ yesIn map (s .way) → Does (openedIn (sight s ks ls) v map) ks ls m ks′ ls
+        → ks′ ≡ putIn ks (slotOf (countIn (s .depth))) 2 → next ≡ yesIn map (s .way) → Does (openedIn (sight s ks ls) v map) ks ls m ks′ ls
     unfolding openedIn sight byLabel
     opened-again head hh g gg t z kk q = rw (← hh, ← gg, t, eq-eqb v 0 z, ← q) (changes s next 0 m ks ls 2 ks′ e kk)
 
@@ -188,11 +229,11 @@ module _ (s : Spot) (v : ℕ) (map : List ℕ) (m : Move) (ks ls : List ℕ) whe
     opened-false t z = rw (← hh, ← gg, t, eq-eqb v 0 z) (refuses s 0 0 m ks ls 31 e)
 
 module _ (s : Spot) (ks ls : List ℕ) (h k : ℕ) where
-  pub again-yes : (l : ℕ) → k ≡ 3 → k ≡ topAt ks (s .count) 9 → l ≡ topAt ls (s .count) 0 → eqb l h ≡ againIn (sight s ks ls) h
+  pub again-yes : (l : ℕ) → k ≡ 3 → k ≡ topAt ks (countIn (s .depth)) 9 → l ≡ topAt ls (countIn (s .depth)) 0 → eqb l h ≡ againIn (sight s ks ls) h
   unfolding sight
   again-yes l e kk ll = rw (← kk, eq-eqb k 3 e, ll)
 
-  pub again-no : (k ≡ 3 → ⊥) → k ≡ topAt ks (s .count) 9 → false ≡ againIn (sight s ks ls) h
+  pub again-no : (k ≡ 3 → ⊥) → k ≡ topAt ks (countIn (s .depth)) 9 → false ≡ againIn (sight s ks ls) h
   unfolding sight
   again-no e kk = rw (← kk, ne-eqb k 3 e)
 
@@ -200,42 +241,47 @@ pub ruleset acts = (chosen-else, chosen-then, closed-yes, closed-no, repeated-tr
 
 -- ---- calls and returns
 module _ (s : Spot) (map : List ℕ) (m : Move) (ks ls : List ℕ) where
-  pub entered-no : 64 ≤ s .calls → m ≡ told (refusedIn (bare s) 34) → Does (enteredIn (bare s) map) ks ls m ks ls
+  pub entered-no : 262144 ≤ s .depth → m ≡ told (refusedIn (bare s) 34) → Does (enteredIn (bare s) map) ks ls m ks ls
   unfolding enteredIn
-  entered-no h e = rw (le-leb 64 (s .calls) h) (refuses s 0 0 m ks ls 34 e)
+  entered-no h e = rw (le-leb 64 (callsIn (s .depth)) (omega arith)) (refuses s 0 0 m ks ls 34 e)
 
   module _ (side : ℕ) where
-    pub returned-no : s .calls ≡ 0 → m ≡ told (refusedIn (bare s) 30) → Does (returnedIn (byLabel s ls) side map) ks ls m ks ls
+    pub returned-no : s .depth < 4096 → m ≡ told (refusedIn (bare s) 30) → Does (returnedIn (byLabel s ls) side map) ks ls m ks ls
     unfolding returnedIn byLabel
-    returned-no h e = rw (eq-eqb (s .calls) 0 h) (refuses s 0 0 m ks ls 30 e)
+    returned-no h e = rw (eq-eqb (callsIn (s .depth)) 0 (omega arith)) (refuses s 0 0 m ks ls 30 e)
 
-    module _ (nz : s .calls ≡ 0 → ⊥) (l : ℕ) (ll : l ≡ topAt ls (s .count) 0) where
+    module _ (nz : 4096 ≤ s .depth) (l : ℕ) (ll : l ≡ topAt ls (countIn (s .depth)) 0) where
       pub returned-far : 1024 ≤ l → m ≡ told (refusedIn (bare s) 21) → Does (returnedIn (byLabel s ls) side map) ks ls m ks ls
       unfolding returnedIn byLabel
-      returned-far h e = rw (ne-eqb (s .calls) 0 nz, ← ll, le-ltb l 1024 h) (refuses s 0 0 m ks ls 21 e)
+      returned-far h e = rw (ne-eqb (callsIn (s .depth)) 0 (λ e. omega arith), ← ll, le-ltb l 1024 h) (refuses s 0 0 m ks ls 21 e)
 
       pub returned-on : l < 1024 → (ks′ ls′ : List ℕ) → Does (backIn (bare s) l side map) ks ls m ks′ ls′ → Does (returnedIn (byLabel s ls) side map) ks ls m ks′ ls′
       unfolding returnedIn byLabel
-      returned-on h ks′ ls′ d = rw (ne-eqb (s .calls) 0 nz, ← ll, lt-ltb l 1024 h) d
+      returned-on h ks′ ls′ d = rw (ne-eqb (callsIn (s .depth)) 0 (λ e. omega arith), ← ll, lt-ltb l 1024 h) d
 
 module _ (s : Spot) (map ks ls ks′ ls′ : List ℕ) where
-  pub entered-yes : (n a l w : ℕ) → s .calls < 64 → (n ≡ moreOf (s .count)) × ((ks′ ≡ putIn ks (s .count) 4) × (ls′ ≡ putIn ls (s .count) l)) → a ≡ firstIn map (s .way)
+  pub entered-yes : (n a l w : ℕ) → s .depth < 262144 → (n ≡ depthOf (callsIn (s .depth)) (moreOf (countIn (s .depth)))) × ((ks′ ≡ putIn ks (countIn (s .depth)) 4) × (ls′ ≡ putIn ls (countIn (s .depth)) l)) → a ≡ firstIn map (s .way)
       → l ≡ labelIn (s .way) → w ≡ secondIn map (s .way)
-      → Does (enteredIn (bare s) map) ks ls (record { reason = 0; way = w; a = a; calls = s .calls + 1; count = n }) ks′ ls′
+      → Does (enteredIn (bare s) map) ks ls (record { reason = 0; way = w; a = a; depth = n + 4096 }) ks′ ls′
   unfolding enteredIn
   entered-yes n a l w h (nn, (kk, ll)) aa el ww =
-      rw (lt-leb 64 (s .calls) h, ← el) (record { made = rw (nn, aa, ww); kinds = kk; labels = ll })
+      let deeper : n + 4096 ≡ depthOf (callsIn (s .depth) + 1) (moreOf (countIn (s .depth))) = omega (arith, nn) in
+      rw (lt-leb 64 (callsIn (s .depth)) (omega arith), ← el)
+      (record { made = λ i. record { reason = 0; way = ww i; a = aa i; depth = deeper i }; small = more-small (countIn (s .depth)) (omega arith); kinds = kk; labels = ll })
 
-  pub back-is : (l x side w n : ℕ) → w ≡ yesIn map (x + side) → x ≡ l → (n ≡ s .count - 1) × ((ks′ ≡ putIn ks (slotOf (s .count)) 0) × (ls′ ≡ putIn ls (slotOf (s .count)) 0))
-      → Does (backIn (bare s) l side map) ks ls (record { reason = 0; way = w; a = l; calls = s .calls - 1; count = n }) ks′ ls′
-  back-is l x side w n ww xx (nn, (kk, ll)) = record { made = rw (ww, xx, nn); kinds = kk; labels = ll }
+  pub back-is : 4096 ≤ s .depth → (l x side w n : ℕ) → w ≡ yesIn map (x + side) → x ≡ l → (n ≡ depthOf (callsIn (s .depth)) (countIn (s .depth) - 1)) × ((ks′ ≡ putIn ks (slotOf (countIn (s .depth))) 0) × (ls′ ≡ putIn ls (slotOf (countIn (s .depth))) 0))
+      → Does (backIn (bare s) l side map) ks ls (record { reason = 0; way = w; a = l; depth = n - 4096 }) ks′ ls′
+  back-is h l x side w n ww xx (nn, (kk, ll)) =
+      let fewer : n - 4096 ≡ depthOf (callsIn (s .depth) - 1) (countIn (s .depth) - 1) = omega (arith, nn) in
+      let to : w ≡ yesIn map (l + side) = rw (← xx) ww in
+      record { made = λ i. record { reason = 0; way = to i; a = l; depth = fewer i }; small = omega arith; kinds = kk; labels = ll }
 
 pub ruleset calls = (entered-no, entered-yes, back-is, returned-no, returned-far, returned-on)
 
 -- ---- a SET
 module _ (s : Spot) (map : List ℕ) (n : ℕ) (m : Move) where
-  pub assigned-done : (next : ℕ) → n ≡ 0 → m ≡ onTo (bare s) next (s .count) → next ≡ yesIn map (s .way) → m ≡ told (assignedIn (bare s) n map)
-  assigned-done next e h k = rw (eq-eqb n 0 e, ← k) h
+  pub assigned-done : (next : ℕ) → n ≡ 0 → m ≡ onTo (bare s) next (s .depth) → next ≡ yesIn map (s .way) → m ≡ told (assignedIn (bare s) n map)
+  assigned-done next e h k = rw (eq-eqb n 0 e, ← k) (h ∙ ap (onTo (bare s) next) (together (s .depth)))
 
   pub assigned-not : (n ≡ 0 → ⊥) → m ≡ told (refusedIn (bare s) n) → m ≡ told (assignedIn (bare s) n map)
   assigned-not e h = rw (ne-eqb n 0 e) h
@@ -304,7 +350,7 @@ module _ (s : Spot) (f arr map : List ℕ) (σ : Store) (m : Move) (ks ls ks′ 
   unfolding testedIn
   told-on n5 n7 d = rw (ne-eqb a 5 n5, ne-eqb a 7 n7) d
 
-pub skipped : (s : Spot) (v : ℕ) (map : List ℕ) (m : Move) (ks ls : List ℕ) (a next : ℕ) → (a ≡ 8 → ⊥) → (a ≡ 10 → ⊥) → m ≡ onTo (bare s) next (s .count)
+pub skipped : (s : Spot) (v : ℕ) (map : List ℕ) (m : Move) (ks ls : List ℕ) (a next : ℕ) → (a ≡ 8 → ⊥) → (a ≡ 10 → ⊥) → m ≡ onTo (bare s) next (s .depth)
     → next ≡ yesIn map (s .way) → Does (loopedIn (sight s ks ls) a v map) ks ls m ks ls
 unfolding loopedIn sight
 skipped s v map m ks ls a next n8 n10 h n = rw (ne-eqb a 8 n8, ne-eqb a 10 n10, ← n) (keeps s next 0 m ks ls h)
@@ -328,12 +374,16 @@ module _ (f map arr : List ℕ) (s : Spot) (ks ls : List ℕ) (σ : Store) (m : 
 
   set-rules : (τ : Store) (x : Answer Store) → Sets (afterSet (bare s) map σ x) m τ → Rules (afterSet (sight s ks ls) map σ x) ks ls m ks ls τ
   unfolding sight
-  set-rules τ (ok σ′) d = record { does = record { made = d .made; kinds = unwritten ks 0 true; labels = unwritten ls 0 true }; left = d .left }
+  set-rules τ (ok σ′) d = record { does = record { made = d .made; small = omega arith; kinds = unwritten ks 0 true; labels = unwritten ls 0 true }; left = d .left }
   set-rules τ (no q) d =
       record {
-        does = record { made = d .made; kinds = slotless (bare s) (yesIn map (s .way)) (number q) _ ks (eqb (number q) 0); labels = slotless (bare s) (yesIn map (s .way)) (number q) _ ls (eqb (number q) 0) };
+        does = record { made = d .made; small = few (eqb (number q) 0); kinds = slotless (bare s) (yesIn map (s .way)) (number q) _ ks (eqb (number q) 0); labels = slotless (bare s) (yesIn map (s .way)) (number q) _ ls (eqb (number q) 0) };
         left = d .left;
       }
+    where
+      few : (t : Bool) → cond t (keptIn (bare s) (yesIn map (s .way))) (refusedIn (bare s) (number q)) .count < 4096
+      few true = omega arith
+      few false = omega arith
 
   module _ (a : ℕ) (aa : a ≡ actIn map (s .way)) (near : s .way < 2048) where
     pub does-add : (τ : Store) → a ≡ 4 → Sets (cellIn f map arr (bare s) σ 0) m τ → Decides ks ls τ

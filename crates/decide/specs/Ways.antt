@@ -1,6 +1,6 @@
 -- What a step decides by the map of a run, for any map, as the code does. Nothing here has to be believed: proofs/Mapped joins
 -- it to the decision by the table. A way is a label and a direction in one number: the label, and 1,024 more upwards.
-use Prim.Native.Nat.{ℕ, _+_, _-_}
+use Prim.Native.Nat.{ℕ, _+_, _-_, _*_, _/_, _%_, _<_}
 use mathlib.Core.List.{List}
 use mathlib.Core.Path.{_≡_}
 use mathlib.Core.Bool.{Bool, false, cond, Bool·beq as same}
@@ -24,18 +24,28 @@ pub record Sight : Type 0 where
   pub kind : ℕ
   pub label : ℕ
 
+-- how many frames are calls and how many there are, in one number
+abbrev pub depthOf : ℕ → ℕ → ℕ
+depthOf calls count = 4096 * calls + count
+
+abbrev pub callsIn : ℕ → ℕ
+callsIn d = d / 4096
+
+abbrev pub countIn : ℕ → ℕ
+countIn d = d % 4096
+
 abbrev pub sightBy : Spot → ℕ → ℕ → Sight
-sightBy s k l = record { way = s .way; calls = s .calls; count = s .count; kind = k; label = l }
+sightBy s k l = record { way = s .way; calls = callsIn (s .depth); count = countIn (s .depth); kind = k; label = l }
 
 -- of the slots of the place; and where a function asks for the kind alone, the label alone, or neither
 unfoldable pub sight : Spot → List ℕ → List ℕ → Sight
-sight s ks ls = sightBy s (topAt ks (s .count) 9) (topAt ls (s .count) 0)
+sight s ks ls = sightBy s (topAt ks (countIn (s .depth)) 9) (topAt ls (countIn (s .depth)) 0)
 
 unfoldable pub byKind : Spot → List ℕ → Sight
-byKind s ks = sightBy s (topAt ks (s .count) 9) 0
+byKind s ks = sightBy s (topAt ks (countIn (s .depth)) 9) 0
 
 unfoldable pub byLabel : Spot → List ℕ → Sight
-byLabel s ls = sightBy s 9 (topAt ls (s .count) 0)
+byLabel s ls = sightBy s 9 (topAt ls (countIn (s .depth)) 0)
 
 abbrev pub bare : Spot → Sight
 bare s = sightBy s 9 0
@@ -77,7 +87,7 @@ pub record Doing : Type 0 where
 
 -- what of it is answered; the slot is written
 abbrev pub told : Doing → Move
-told d = record { reason = d .reason; way = d .way; a = d .a; calls = d .calls; count = d .count }
+told d = record { reason = d .reason; way = d .way; a = d .a; depth = depthOf (d .calls) (d .count) }
 
 -- the slots afterwards; a refused step writes none
 abbrev pub written : Doing → List ℕ → ℕ → List ℕ
@@ -86,6 +96,7 @@ written d s v = cond (eqb (d .reason) 0) (putIn s (d .slot) v) s
 -- the move answered and the slots left are these
 pub record Does (d : Doing) (ks ls : List ℕ) (m : Move) (ks′ ls′ : List ℕ) : Type 0 where
   pub made : m ≡ told d
+  pub small : d .count < 4096
   pub kinds : ks′ ≡ written d ks (d .kind)
   pub labels : ls′ ≡ written d ls (d .label)
 
@@ -109,9 +120,9 @@ poppedIn s y = moving 0 y (labelIn (s .way)) (s .calls) (fewerOf (s .count)) (sl
 abbrev pub changedIn : Sight → ℕ → ℕ → Doing
 changedIn s y k = moving 0 y (labelIn (s .way)) (s .calls) (s .count) (slotOf (s .count)) k (s .label)
 
--- what is answered where no reason stops it and so many frames are left
+-- what is answered where no reason stops it and the frames are so many
 abbrev pub onTo : Sight → ℕ → ℕ → Move
-onTo s y n = record { reason = 0; way = y; a = labelIn (s .way); calls = s .calls; count = n }
+onTo s y n = record { reason = 0; way = y; a = labelIn (s .way); depth = n }
 
 -- ---- the acts
 unfoldable pub chosenIn : Sight → ℕ → List ℕ → Doing

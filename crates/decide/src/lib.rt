@@ -12,15 +12,15 @@ ghost use lib.ListN.{getD};
 ghost use Rattle.expr.specs.Answers.{worthAt};
 ghost use Rattle.expr.specs.Bytes.{within};
 ghost use Rattle.decide.specs.Decide.{moreOf, fewerOf, slotOf, putIn, truthOf};
-ghost use Rattle.decide.specs.Ways.{bare, byKind, byLabel, sight, yesIn, noIn, secondIn, exprIn, told, Does, onTo, refusedIn, chosenIn, closedIn, againIn, openedIn, repeatedIn, enteredIn, backIn, returnedIn, loopedIn, testedIn, assignedIn, Sets, cellIn, entryIn, Rules, ruleIn};
+ghost use Rattle.decide.specs.Ways.{depthOf, callsIn, countIn, bare, byKind, byLabel, sight, yesIn, noIn, secondIn, exprIn, told, Does, onTo, refusedIn, chosenIn, closedIn, againIn, openedIn, repeatedIn, enteredIn, backIn, returnedIn, loopedIn, testedIn, assignedIn, Sets, cellIn, entryIn, Rules, ruleIn};
 
 mod set;
 
-// Where a step stands: the way of the record met, how many frames are calls, how many there are.
+// Where a step stands: the way of the record met; and in one number, which stays in a register, how many frames are calls (4,096
+// for each) and how many there are.
 pub struct Spot {
     pub way: usize,
-    pub calls: usize,
-    pub count: usize,
+    pub depth: usize,
 }
 
 // What it does: reason 0, the next way and the label before it, or the reason; and how many frames are left. It writes the one
@@ -29,8 +29,7 @@ pub struct Move {
     pub reason: u8,
     pub way: usize,
     pub a: u16,
-    pub calls: usize,
-    pub count: usize,
+    pub depth: usize,
 }
 
 // A u16 as a number, with the bound that sums of it need.
@@ -41,29 +40,37 @@ fn wide(x: u16) -> usize
 }
 
 // One frame more; a full place stays as it is.
-fn push(kinds: &mut [u16; 1104], labels: &mut [u16; 1104], n: usize, kind: u16, label: u16) -> usize
-    ensures { λ r. ⌜ (r ≡ moreOf n) × ((now (kinds .exit) ≡ putIn (now (kinds .entry)) n kind) × (now (labels .exit) ≡ putIn (now (labels .entry)) n label)) ⌝ }
+fn push(
+    kinds: &mut [u16; 1104],
+    labels: &mut [u16; 1104],
+    depth: usize,
+    kind: u16,
+    label: u16,
+) -> usize
+    ensures { λ r. ⌜ (r ≡ depthOf (callsIn depth) (moreOf (countIn depth))) × ((now (kinds .exit) ≡ putIn (now (kinds .entry)) (countIn depth) kind) × (now (labels .exit) ≡ putIn (now (labels .entry)) (countIn depth) label)) ⌝ }
 {
+    let n = depth % 4096;
     if n < 1104 {
         kinds[n] = kind;
         labels[n] = label;
-        return n + 1;
+        return depth + 1;
     }
-    n
+    depth
 }
 
 // One frame less: its slot is cleared.
-fn pop(kinds: &mut [u16; 1104], labels: &mut [u16; 1104], n: usize) -> usize
-    ensures { λ r. ⌜ (r ≡ fewerOf n) × ((now (kinds .exit) ≡ putIn (now (kinds .entry)) (slotOf n) 0) × (now (labels .exit) ≡ putIn (now (labels .entry)) (slotOf n) 0)) ⌝ }
+fn pop(kinds: &mut [u16; 1104], labels: &mut [u16; 1104], depth: usize) -> usize
+    ensures { λ r. ⌜ (r ≡ depthOf (callsIn depth) (fewerOf (countIn depth))) × ((now (kinds .exit) ≡ putIn (now (kinds .entry)) (slotOf (countIn depth)) 0) × (now (labels .exit) ≡ putIn (now (labels .entry)) (slotOf (countIn depth)) 0)) ⌝ }
 {
+    let n = depth % 4096;
     if n == 0 {
-        return 0;
+        return depth;
     }
     if n <= 1104 {
         kinds[n - 1] = 0;
         labels[n - 1] = 0;
     }
-    n - 1
+    depth - 1
 }
 
 // The innermost frame's kind.
@@ -138,22 +145,20 @@ impl Spot {
             reason,
             way: self.way,
             a: 0,
-            calls: self.calls,
-            count: self.count,
+            depth: self.depth,
         }
     }
 
     // On to another way, with so many frames.
-    fn on(self, next: usize, count: usize) -> Move
-        ensures { λ r. ⌜ r ≡ onTo (bare self) next count ⌝ }
+    fn on(self, next: usize, depth: usize) -> Move
+        ensures { λ r. ⌜ r ≡ onTo (bare self) next depth ⌝ }
     {
         let a = label_of(self.way);
         Move {
             reason: 0,
             way: next,
             a,
-            calls: self.calls,
-            count,
+            depth,
         }
     }
 
@@ -171,10 +176,10 @@ impl Spot {
         let head = entry(map, 12288, self.way);
         if v == 0 {
             let next = elsewhere(map, self.way);
-            return self.on(next, push(kinds, labels, self.count, 1, head));
+            return self.on(next, push(kinds, labels, self.depth, 1, head));
         }
         let next = onward(map, self.way);
-        self.on(next, push(kinds, labels, self.count, 0, head))
+        self.on(next, push(kinds, labels, self.depth, 0, head))
     }
 
     // IF up and FI down close: value and frame must agree.
@@ -188,22 +193,22 @@ impl Spot {
         requires { ⌜ self .way < 2048 ⌝ }
         ensures { λ r. ⌜ Does (closedIn (byKind self (now (kinds .entry))) v (now (map .entry))) (now (kinds .entry)) (now (labels .entry)) r (now (kinds .exit)) (now (labels .exit)) ⌝ }
     {
-        let kind = top_of(kinds, self.count, 9);
+        let kind = top_of(kinds, self.depth % 4096, 9);
         // one test that nearly always holds, and none of the value by itself
         if (v == 0) == (kind == 0) {
             return self.refused(31);
         }
         let next = onward(map, self.way);
-        self.on(next, pop(kinds, labels, self.count))
+        self.on(next, pop(kinds, labels, self.depth))
     }
 
     // Whether one comes to the loop from its s2.
     fn again(self, head: u16, kinds: &[u16; 1104], labels: &[u16; 1104]) -> bool
         ensures { λ r. ⌜ r ≡ againIn (sight self (now (kinds .entry)) (now (labels .entry))) head ⌝ }
     {
-        let kind = top_of(kinds, self.count, 9);
+        let kind = top_of(kinds, self.depth % 4096, 9);
         if kind == 3 {
-            return top_of(labels, self.count, 0) == head;
+            return top_of(labels, self.depth % 4096, 0) == head;
         }
         false
     }
@@ -225,13 +230,13 @@ impl Spot {
             if v != 0 {
                 return self.refused(31);
             }
-            change(kinds, self.count, 2);
-            return self.on(next, self.count);
+            change(kinds, self.depth % 4096, 2);
+            return self.on(next, self.depth);
         }
         if v == 0 {
             return self.refused(31);
         }
-        self.on(next, push(kinds, labels, self.count, 2, head))
+        self.on(next, push(kinds, labels, self.depth, 2, head))
     }
 
     // UNTIL down and FROM up test: true leaves the loop, false enters s2.
@@ -247,11 +252,11 @@ impl Spot {
     {
         if v == 0 {
             let next = elsewhere(map, self.way);
-            change(kinds, self.count, 3);
-            return self.on(next, self.count);
+            change(kinds, self.depth % 4096, 3);
+            return self.on(next, self.depth);
         }
         let next = onward(map, self.way);
-        self.on(next, pop(kinds, labels, self.count))
+        self.on(next, pop(kinds, labels, self.depth))
     }
 
     // A call enters a procedure at the edge that the map has; a 65th is refused.
@@ -259,19 +264,18 @@ impl Spot {
         requires { ⌜ self .way < 2048 ⌝ }
         ensures { λ r. ⌜ Does (enteredIn (bare self) (now (map .entry))) (now (kinds .entry)) (now (labels .entry)) r (now (kinds .exit)) (now (labels .exit)) ⌝ }
     {
-        let calls = self.calls;
-        if 64 <= calls {
+        // 64 calls
+        if 262144 <= self.depth {
             return self.refused(34);
         }
-        let count = push(kinds, labels, self.count, 4, label_of(self.way));
+        let depth = push(kinds, labels, self.depth, 4, label_of(self.way));
         let a = entry(map, 6144, self.way);
         let way = target(map, self.way);
         Move {
             reason: 0,
             way,
             a,
-            calls: calls + 1,
-            count,
+            depth: depth + 4096,
         }
     }
 
@@ -284,17 +288,16 @@ impl Spot {
         labels: &mut [u16; 1104],
         map: &[u16; 14336],
     ) -> Move
-        requires { ⌜ (0 < self .calls) × ((label < 1024) × (side ≤ 1024)) ⌝ }
+        requires { ⌜ (4096 ≤ self .depth) × ((label < 1024) × (side ≤ 1024)) ⌝ }
         ensures { λ r. ⌜ Does (backIn (bare self) label side (now (map .entry))) (now (kinds .entry)) (now (labels .entry)) r (now (kinds .exit)) (now (labels .exit)) ⌝ }
     {
         let way = onward(map, wide(label) + side);
-        let count = pop(kinds, labels, self.count);
+        let depth = pop(kinds, labels, self.depth);
         Move {
             reason: 0,
             way,
             a: label,
-            calls: self.calls - 1,
-            count,
+            depth: depth - 4096,
         }
     }
 
@@ -309,11 +312,10 @@ impl Spot {
         requires { ⌜ side ≤ 1024 ⌝ }
         ensures { λ r. ⌜ Does (returnedIn (byLabel self (now (labels .entry))) side (now (map .entry))) (now (kinds .entry)) (now (labels .entry)) r (now (kinds .exit)) (now (labels .exit)) ⌝ }
     {
-        let calls = self.calls;
-        if calls == 0 {
+        if self.depth < 4096 {
             return self.refused(30);
         }
-        let label = top_of(labels, self.count, 0);
+        let label = top_of(labels, self.depth % 4096, 0);
         if 1024 <= label {
             return self.refused(21);
         }
@@ -326,7 +328,7 @@ impl Spot {
         ensures { λ r. ⌜ r ≡ told (assignedIn (bare self) reason (now (map .entry))) ⌝ }
     {
         if reason == 0 {
-            return self.on(onward(map, self.way), self.count);
+            return self.on(onward(map, self.way), self.depth);
         }
         self.refused(reason)
     }
@@ -395,7 +397,7 @@ fn looped(
         }
         return s.repeated(v, kinds, labels, map);
     }
-    s.on(onward(map, s.way), s.count)
+    s.on(onward(map, s.way), s.depth)
 }
 
 // A record that tests, or is skipped.

@@ -1,6 +1,6 @@
 -- `decide::push` meets its contract: the cases of `DecideCases`. Assumes nothing.
 use borrow.Author.Needs.{needs}
-use Rattle.decide.proofs.DecideCases.{smalls, slots}
+use Rattle.decide.proofs.DecideCases.{depths, slots}
 use Rattle.decide.proofs.push.Statement.{statement}
 use Rattle.decide.proofs.push.Tie as tie
 
@@ -13,5 +13,5 @@ push-spec =
     (λ c. search needs)
     (λ c. search needs)
     (λ c. search needs)
-    (λ c. (search smalls, (search slots, search slots)))
-    (λ c. (search smalls, (search slots, search slots))))
+    (λ c. (search depths, (search slots, search slots)))
+    (λ c. (search depths, (search slots, search slots))))

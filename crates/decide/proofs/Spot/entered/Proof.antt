@@ -1,6 +1,7 @@
 -- `decide::Spot::entered` meets its contract: the cases of `DecideCases`. Assumes nothing.
+use native.Mathlib.Omega.{arith}
 use borrow.Author.Needs.{needs}
-use Rattle.decide.proofs.DecideCases.{calls}
+use Rattle.decide.proofs.DecideCases.{calls, pushed-small}
 use Rattle.decide.proofs.Spot.entered.Statement.{statement}
 use Rattle.decide.proofs.Spot.entered.Tie as tie
 
@@ -14,5 +15,5 @@ entered-spec =
     (λ c κs. search needs)
     (λ c κs. search needs)
     (λ c κs. search needs)
-    (λ c. search needs)
+    (λ c. let p = c .before .before in omega (arith, pushed-small _ _ (p .push .ensures .0) (p .before .before .before .before .if1 .left)))
     (λ c. search calls))

@@ -1,6 +1,6 @@
 -- `decide::Spot::on` meets its contract: the cases of `DecideCases`. Assumes nothing.
 use borrow.Author.Needs.{needs}
-use Rattle.decide.proofs.DecideCases.{on-is}
+use Rattle.decide.proofs.DecideCases.{moves}
 use Rattle.decide.proofs.Spot.on.Statement.{statement}
 use Rattle.decide.proofs.Spot.on.Tie as tie
 
@@ -9,4 +9,4 @@ on-spec =
     tie.close
     (tie.spec
     (λ c κs. search needs)
-    (λ c. search on-is))
+    (λ c. search moves))
