@@ -1,13 +1,15 @@
 -- The answers of the functions of src/lib.rt, case by case. Assumes nothing.
 use mathlib.Core.Path.{_≡_, refl, sym, ap, _∙_, subst}
-use mathlib.Core.Bool.{Bool, true, false, not}
+use mathlib.Core.Bool.{Bool, true, false, not, false≢true}
 use mathlib.Core.List.{List}
-use Prim.Native.Nat.{ℕ}
+use Prim.Native.Nat.{ℕ, _≤_}
 use native.Mathlib.Omega.{arith}
 use borrow.Author.Tests.{eq-eqb, ne-eqb}
 use lib.ListN.{length}
 use Rattle.place.specs.declared.Place.{Place as Held}
 use Rattle.place.specs.Methods.{blankOf, movedOf}
+use Rattle.place.specs.Slots.{Plain, Decides, plainOf}
+use Rattle.place.proofs.Held.{plain-of, plain-count}
 use Rattle.program.specs.Arrays.{arraysAt}
 use Rattle.table.specs.Table.{tableOf}
 use Rattle.fits.specs.Fits.{fitsIn}
@@ -49,6 +51,15 @@ copied-goes f tab records q σ n bytes arr map k cells left w τ eb ea m ek ec g
 }
 
 -- ---- `checked`
+-- a place that fits has room
+pub fits-count : (f tab : List ℕ) (records : ℕ) (q : Held) (b : Bool) → b ≡ fitsIn f tab records q → not b ≡ false → q .count ≤ 1104
+unfolding fitsIn
+fits-count f tab records q b e n = go (plainOf q) refl (sym e ∙ not-false b n)
+  where
+    go : (t : Bool) → plainOf q ≡ t → fitsIn f tab records q ≡ true → q .count ≤ 1104
+    go true p h = plain-count q (subst (λ (t : Bool). Decides t (Plain q)) p (plain-of q))
+    go false p h = absurd (false≢true (rw p at h))
+
 module _ (f : List ℕ) (records c : ℕ) (q : Held) (σ : Store) (n : ℕ) where
   pub checked-size : (r : Ran) → (length σ ≡ c → ⊥) → r ≡ staying 20 0 q → CheckedRun f records c q σ n r σ
   checked-size r h e = size h e refl

@@ -42,8 +42,8 @@ standOf h = record { way = wayTo (h .b) (h .direction); a = h .a; count = h .cou
 abbrev pub heldBy : Stand → Held
 heldBy s = record { direction = sideIn (s .way); a = s .a; b = labelIn (s .way); count = s .count; kinds = s .kinds; labels = s .labels }
 
-abbrev pub spotBy : ℕ → ℕ → ℕ → Spot
-spotBy w c n = record { way = w; calls = c; count = n }
+abbrev pub spotBy : ℕ → ℕ → Spot
+spotBy w d = record { way = w; depth = d }
 
 abbrev pub sightIn : Stand → ℕ → Sight
 sightIn s c = record { way = s .way; calls = c; count = s .count; kind = topAt (s .kinds) (s .count) 9; label = topAt (s .labels) (s .count) 0 }

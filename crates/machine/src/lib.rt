@@ -3,6 +3,7 @@ use place::Place;
 use program::Checked;
 use walk::Went;
 ghost use mathlib.Core.Path.{_≡_};
+ghost use Prim.Native.Nat.{_≤_};
 ghost use Rattle.moves.specs.Step.{step as forward, stepBack};
 ghost use Rattle.moves.specs.Runs.{run as running, runBack};
 ghost use Rattle.machine.specs.Answers.{StepSays, RunSays, StartSays, direction};
@@ -63,6 +64,7 @@ fn went(
     store: &mut [i32],
     n: u32,
 ) -> Went
+    requires { ⌜ place .count ≤ 1104 ⌝ }
     ensures { λ r. ⌜ Copied (now (file .entry)) (now (table .entry)) records place (now (store .entry)) n r (now (store .exit)) ⌝ }
 {
     let bytes = copies::padded(file);

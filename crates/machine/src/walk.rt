@@ -47,7 +47,7 @@ fn ended(
 // How many of the first n slots are calls.
 fn count(kinds: &[u16; 1104], n: usize) -> usize
     requires { ⌜ n ≤ 1104 ⌝ }
-    ensures { λ r. ⌜ r ≡ callsIn (now (kinds .entry)) n ⌝ }
+    ensures { λ r. ⌜ (r ≡ callsIn (now (kinds .entry)) n) × (r ≤ n) ⌝ }
 {
     let mut calls: usize = 0;
     let mut i: usize = 0;
@@ -61,7 +61,7 @@ fn count(kinds: &[u16; 1104], n: usize) -> usize
 }
 
 pub fn calls(kinds: &[u16; 1104], n: usize) -> usize
-    ensures { λ r. ⌜ r ≡ callsOf (now (kinds .entry)) n ⌝ }
+    ensures { λ r. ⌜ (r ≡ callsOf (now (kinds .entry)) n) × (r ≤ 1104) ⌝ }
 {
     if n <= 1104 {
         return count(kinds, n);
@@ -70,10 +70,10 @@ pub fn calls(kinds: &[u16; 1104], n: usize) -> usize
 }
 
 // Where a step stands.
-fn spot(way: usize, calls: usize, count: usize) -> Spot
-    ensures { λ r. ⌜ r ≡ spotBy way calls count ⌝ }
+fn spot(way: usize, depth: usize) -> Spot
+    ensures { λ r. ⌜ r ≡ spotBy way depth ⌝ }
 {
-    Spot { way, calls, count }
+    Spot { way, depth }
 }
 
 // The way of the record that a place meets.
@@ -84,7 +84,7 @@ fn way_of(b: u16, direction: u8) -> usize
 }
 
 // At most n steps from a place of which so many frames are calls. In the loop the place is taken apart, so that all but the
-// frames stays in registers.
+// frames stays in registers; the calls and the frames are counted in one number for that.
 pub fn go(
     bytes: &[u8; 32784],
     map: &[u16; 14336],
@@ -94,26 +94,25 @@ pub fn go(
     calls: usize,
     n: u32,
 ) -> Went
+    requires { ⌜ (place .count ≤ 1104) × (calls ≤ 1104) ⌝ }
     ensures { λ r. ⌜ Goes (goOf (ruleIn (now (bytes .entry)) (now (map .entry)) (now (arrays .entry))) n (standOf place) calls (now (cells .entry)) 0) r (now (cells .exit)) ⌝ }
 {
     let mut kinds = place.kinds;
     let mut labels = place.labels;
     let mut way = way_of(place.b, place.direction);
     let mut a = place.a;
-    let mut count = place.count;
-    let mut deep = calls;
+    let mut depth = 4096 * calls + place.count;
     let mut made: u32 = 0;
     while made < n {
-        let s = spot(way, deep, count);
+        let s = spot(way, depth);
         let m = decide(s, &mut kinds, &mut labels, bytes, map, arrays, cells);
         if m.reason != 0 {
-            return ended(m.reason, made, way, a, count, kinds, labels);
+            return ended(m.reason, made, way, a, depth % 4096, kinds, labels);
         }
         made += 1;
         way = m.way;
         a = m.a;
-        count = m.count;
-        deep = m.calls;
+        depth = m.depth;
     }
-    ended(0, made, way, a, count, kinds, labels)
+    ended(0, made, way, a, depth % 4096, kinds, labels)
 }

@@ -21,4 +21,4 @@ went-spec =
     let r = c .before in let g = r .before .before .before in let w = g .before .before .before .before .before in let k = w .before .before in let m = k .before .before .before in
     let a = m .before .before in
     copied-goes _ _ _ _ _ _ _ _ _ _ _ _ _ _
-    (a .before .padded .ensures) (a .arrays .ensures) (m .map .ensures) (k .calls .ensures) (w .widened .ensures) (g .go .ensures) (r .restored .ensures)))
+    (a .before .padded .ensures) (a .arrays .ensures) (m .map .ensures) (k .calls .ensures .0) (w .widened .ensures) (g .go .ensures) (r .restored .ensures)))

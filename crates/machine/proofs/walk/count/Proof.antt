@@ -32,4 +32,4 @@ count-spec =
     (c .if1 .came))
     (λ c.
     let z : c .before .loop .i ≡ c .before .before .args .n = omega (arith, c .loop-test .left) in
-    c .before .loop .inv .2 ∙ ap (λ (j : ℕ). callsIn (c .before .before .args .kinds .now) j) z))
+    (c .before .loop .inv .2 ∙ ap (λ (j : ℕ). callsIn (c .before .before .args .kinds .now) j) z, omega (arith, c .before .loop .inv .1, z))))
