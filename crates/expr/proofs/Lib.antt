@@ -4,6 +4,7 @@ pub mod Format
 pub mod Agree
 pub mod Ends
 pub mod Values
+pub mod Quickly
 pub mod Names
 pub mod Knowns
 pub mod Vectors

@@ -1,0 +1,113 @@
+-- The answers of the quick ways, case by case, over plain numbers and lists. Assumes nothing.
+use mathlib.Core.Path.{_≡_, refl, sym, ap, _∙_}
+use mathlib.Core.List.{List}
+use mathlib.Core.Bool.{Bool, true, false, false≢true, cond}
+use Prim.Native.Nat.{ℕ, _+_, _≤_, _<_}
+use native.Mathlib.Omega.{arith}
+use native.Mathlib.Decide.{ℕ-discrete}
+use borrow.Author.Tests.{eq-eqb, ne-eqb}
+use lib.Dec.{eqb}
+use lib.IntN.{ℤ, pos}
+use lib.ListN.{getD}
+use lib.Signed.{leZ}
+use mir.Syntax.{w32, w64}
+use mir.Val.{SFits, toZ}
+use mir.Facts.{toZ-ofZ}
+use Rattle.codes.specs.Codes.{word16}
+use Rattle.codes.specs.Numbers.{word32, cellAt}
+use Rattle.values.specs.Values.{Value, is, zeroDivisor, applyOp}
+use Rattle.values.specs.Packed.{InRange, only, counts, divides}
+use Rattle.values.proofs.Laws.{apply-fits}
+use Rattle.expr.specs.Tree.{byZero, badIndex, Worth, value, stop, worthOf, element, eval}
+use Rattle.expr.specs.Bytes.{within}
+use Rattle.expr.specs.Answers.{packedWorth, InCell, Packs, arraysOf, worthAt, OnTheWay, Held, Plain, Quick, QuickPlain, Placed}
+use Rattle.expr.proofs.Values.{again, again64, at-end}
+use Rattle.expr.proofs.Layer.{within-con, within-var, within-read, within-bin}
+
+-- ---- the readers, and where an index begins
+module _ (s : List ℕ) (i : ℕ) (v : ℤ) (f : SFits w32 v) where
+  pub scalar-is : (C : List ℤ) (x : ℕ) → v ≡ getD C x (pos 0) → x ≡ word16 s i → again v ≡ getD C (word16 s i) (pos 0)
+  scalar-is C x p q = rw (← q) (toZ-ofZ f ∙ p)
+
+  pub four-is : (n : ℕ) → v ≡ toZ w32 n → n ≡ word32 s i → again v ≡ cellAt s i
+  four-is n p q = rw (← q) (toZ-ofZ f ∙ p)
+
+pub inner-read : (p first : ℕ) → first ≡ 2 → p + 3 ≡ cond (eqb first 2) (p + 3) p
+inner-read p first e = rw (eq-eqb first 2 e)
+
+pub inner-other : (p first : ℕ) → (first ≡ 2 → ⊥) → p ≡ cond (eqb first 2) (p + 3) p
+inner-other p first e = rw (ne-eqb first 2 e)
+
+pub ruleset readers = (scalar-is, four-is, inner-read, inner-other)
+
+-- ---- a constant or a scalar
+module _ (C : List ℤ) (s : List ℕ) (at : ℕ) (near : at < 32768) (tag : ℕ) (tg : tag ≡ getD s at 0) (v : ℤ) (f : SFits w32 v) where
+  pub leaf-var : tag ≡ 1 → v ≡ getD C (word16 s (at + 1)) (pos 0) → Plain C (within 32768 s at) (at + 5) (again v) (at + 3)
+  unfolding eval
+  leaf-var e p =
+      record {
+        held = λ A. rw (within-var 32768 s at near tag tg e, toZ-ofZ f) (record { worth = ap value (sym p); range = f; place = refl; near = omega arith });
+      }
+
+  pub leaf-con : (tag ≡ 1 → ⊥) → tag < 2 → v ≡ cellAt s (at + 1) → Plain C (within 32768 s at) (at + 5) (again v) (at + 5)
+  unfolding eval
+  leaf-con n k p =
+      let e : tag ≡ 0 = omega arith in
+      record {
+        held = λ A. rw (within-con 32768 s at near tag tg e, toZ-ofZ f) (record { worth = ap value (sym p); range = f; place = refl; near = omega arith });
+      }
+
+pub ruleset leaves = (leaf-var, leaf-con)
+
+-- ---- an answer that is not above every value
+told-small : (w : Worth) (r : ℤ) → r ≡ packedWorth w → InCell w → leZ r (pos 2147483647) ≡ true → (w ≡ value r) × SFits w32 r
+told-small (value v) r e k t = (ap value (sym e), rw e k)
+told-small (stop byZero) r e k t = absurd (false≢true (rw e at t))
+told-small (stop badIndex) r e k t = absurd (false≢true (rw e at t))
+
+only-small : (b : Bool) (w : Value) (v : ℤ) → v ≡ only b w → InRange w → leZ v (pos 2147483647) ≡ true → (worthOf w ≡ value v) × SFits w32 v
+only-small true (is z) v e k t = (ap value (sym e), rw e k)
+only-small true zeroDivisor v e k t = absurd (false≢true (rw e at t))
+only-small false w v e k t = absurd (false≢true (rw e at t))
+
+-- ---- an operator and an array read over what is held
+module _ (A : List ℕ) (C : List ℤ) (s : List ℕ) (at : ℕ) (near : at < 32768) where
+  bin-held : (x y v : ℤ) (mid far after lim : ℕ) → 2 < getD s at 0 → worthAt A C (within 32768 s (at + 2)) ≡ value x → within 32768 s (at + 2) .next ≡ mid
+      → Held A C (within 32768 s mid) far y after → worthOf (applyOp (getD s (at + 1) 0) x y) ≡ value v → SFits w32 v → far ≤ lim → Held A C (within 32768 s at) lim v after
+  unfolding eval
+  bin-held x y v mid far after lim big l n h w f le =
+      let t = within-bin 32768 s at near (getD s at 0) refl (λ e. omega arith) (λ e. omega arith) (λ e. omega arith) in
+      rw (t, n) (record { worth = rw (l, h .worth) w; range = f; place = h .place; near = omega (arith, h .near) })
+
+  read-held : (i r : ℤ) (far after : ℕ) → getD s at 0 ≡ 2 → Held A C (within 32768 s (at + 3)) far i after → Packs (element (arraysOf A) C (word16 s (at + 1)) i) r
+      → OnTheWay (worthAt A C (within 32768 s at)) (within 32768 s at .next) r after
+  unfolding eval
+  read-held i r far after two h p =
+      rw (within-read 32768 s at near (getD s at 0) refl two)
+      (record { answer = rw (h .worth) (p .answer); range = rw (h .worth) (p .range); place = at-end _ after _ (h .place) })
+
+-- ---- `pair`
+module _ (C : List ℤ) (s : List ℕ) (at after : ℕ) where
+  pub pair-none : QuickPlain C (within 32768 s at) (at + 10) (pos 8589934592) after
+  pair-none = record { quick = λ A. record { held = λ t. absurd (false≢true t) } }
+
+  pub pair-is : (t l o : ℕ) (x y v : ℤ) → at < 32752 → t ≡ getD s at 0 → t ≡ 3 → l ≡ getD s (at + 2) 0 → l ≡ 1 → SFits w32 x → SFits w32 y → SFits w64 v
+      → x ≡ getD C (word16 s (at + 3)) (pos 0) → Plain C (within 32768 s (at + 5)) (at + 5 + 5) y after → v ≡ only (counts o) (applyOp o (again x) (again y)) → o ≡ getD s (at + 1) 0
+      → QuickPlain C (within 32768 s at) (at + 10) (again64 v) after
+  unfolding eval
+  pair-is t l o x y v h tt three ll le fx fy fv xx yy p oo =
+      let g = within-var 32768 s (at + 2) (omega arith) l ll le in
+      let k : at + 2 + 1 ≡ at + 3 = omega arith in
+      let q : v ≡ only (counts o) (applyOp o x y) = rw (toZ-ofZ fx, toZ-ofZ fy) at p in
+      record {
+        quick = λ A.
+        record {
+          held = λ small.
+          let w = only-small (counts o) (applyOp o x y) v q (apply-fits o x y fx fy) (rw (toZ-ofZ fv) at small) in
+          rw (toZ-ofZ fv)
+          (bin-held A C s at (omega arith) x y v (at + 5) (at + 5 + 5) after (at + 10) (omega arith) (rw (g, k) (ap value (sym xx))) (rw g (omega arith))
+          (yy .held A) (rw (← oo) (w .0)) (w .1) (omega arith));
+        };
+      }
+
+pub ruleset pairs = (pair-none, pair-is)
