@@ -1,6 +1,6 @@
 -- The answers of the quick ways, case by case, over plain numbers and lists. Assumes nothing.
 use mathlib.Core.Path.{_≡_, refl, sym, ap, _∙_}
-use mathlib.Core.List.{List}
+use mathlib.Core.List.{List, []}
 use mathlib.Core.Bool.{Bool, true, false, false≢true, cond}
 use Prim.Native.Nat.{ℕ, _+_, _≤_, _<_}
 use native.Mathlib.Omega.{arith}
@@ -17,10 +17,11 @@ use Rattle.codes.specs.Codes.{word16}
 use Rattle.codes.specs.Numbers.{word32, cellAt}
 use Rattle.values.specs.Values.{Value, is, zeroDivisor, applyOp}
 use Rattle.values.specs.Packed.{InRange, only, counts, divides}
+use Rattle.values.proofs.Bits.{wide-is}
 use Rattle.values.proofs.Laws.{apply-fits}
 use Rattle.expr.specs.Tree.{byZero, badIndex, Worth, value, stop, worthOf, element, eval}
-use Rattle.expr.specs.Bytes.{within}
-use Rattle.expr.specs.Answers.{packedWorth, InCell, Packs, arraysOf, worthAt, OnTheWay, Held, Plain, Quick, QuickPlain, Placed}
+use Rattle.expr.specs.Bytes.{Got, within}
+use Rattle.expr.specs.Answers.{packedWorth, InCell, Packs, arraysOf, worthAt, readAt, OnTheWay, Held, Plain, Quick, QuickPlain, Narrow, Placed}
 use Rattle.expr.proofs.Values.{again, again64, at-end}
 use Rattle.expr.proofs.Layer.{within-con, within-var, within-read, within-bin}
 
@@ -84,7 +85,7 @@ module _ (A : List ℕ) (C : List ℤ) (s : List ℕ) (at : ℕ) (near : at < 32
   unfolding eval
   read-held i r far after two h p =
       rw (within-read 32768 s at near (getD s at 0) refl two)
-      (record { answer = rw (h .worth) (p .answer); range = rw (h .worth) (p .range); place = at-end _ after _ (h .place) })
+      (record { answer = rw (h .worth) (p .answer); range = rw (h .worth) (p .range); place = at-end (readAt A C (word16 s (at + 1)) (within 32768 s (at + 3))) after _ (h .place) })
 
 -- ---- `pair`
 module _ (C : List ℤ) (s : List ℕ) (at after : ℕ) where
@@ -111,3 +112,73 @@ module _ (C : List ℤ) (s : List ℕ) (at after : ℕ) where
       }
 
 pub ruleset pairs = (pair-none, pair-is)
+
+-- ---- `placed` and `left`
+module _ (first : ℕ) (v : ℤ) (fv : SFits w64 v) where
+  pub placed-cast : Narrow v → leZ (again64 v) (pos 2147483647) ≡ true → SFits w32 (again64 v)
+  placed-cast n t = rw (toZ-ofZ fv) (n .fits (rw (toZ-ofZ fv) at t))
+
+  pub placed-read : (A : List ℕ) (C : List ℤ) (b a : ℕ) (r : ℤ) → first ≡ 2 → leZ (again64 v) (pos 2147483647) ≡ true
+      → Narrow v → SFits w64 r → Packs (element (arraysOf A) C a (again (again64 v))) r → a ≡ b
+      → Placed first (element (arraysOf A) C b v) v (again64 r)
+  placed-read A C b a r e t fit fr p ab =
+      let small : leZ v (pos 2147483647) ≡ true = rw (toZ-ofZ fv) at t in
+      let same : again (again64 v) ≡ v = ap again (toZ-ofZ fv) ∙ toZ-ofZ (fit .fits small) in
+      record {
+        read = λ e t. rw (toZ-ofZ fr, ← ab, ← same) p;
+        heavy = λ k. absurd (false≢true (sym k ∙ small));
+        other = λ n. absurd (n e);
+      }
+
+  pub placed-heavy : (w : Worth) → first ≡ 2 → leZ (again64 v) (pos 2147483647) ≡ false → Placed first w v (again64 v)
+  placed-heavy w e k =
+      let large : leZ v (pos 2147483647) ≡ false = rw (toZ-ofZ fv) at k in
+      record { read = λ e t. absurd (false≢true (sym large ∙ t)); heavy = λ k. toZ-ofZ fv; other = λ n. toZ-ofZ fv }
+
+  pub placed-other : (w : Worth) → (first ≡ 2 → ⊥) → Placed first w v (again64 v)
+  placed-other w n = record { read = λ e t. absurd (n e); heavy = λ k. toZ-ofZ fv; other = λ n. toZ-ofZ fv }
+
+pub ruleset places = (placed-cast, placed-read, placed-heavy, placed-other)
+
+pub leaf-narrow : (v : ℤ) → SFits w32 v → Narrow (again64 (again v))
+leaf-narrow v f = record { fits = λ t. rw (wide-is f) f }
+
+pub pair-cast : (C : List ℤ) (g : Got) (far after : ℕ) (v : ℤ) → SFits w64 v → QuickPlain C g far v after → leZ (again64 v) (pos 2147483647) ≡ true → SFits w32 (again64 v)
+pair-cast C g far after v f q t = rw (toZ-ofZ f) (q .quick [] .held (rw (toZ-ofZ f) at t) .range)
+
+pub pair-narrow : (C : List ℤ) (g : Got) (far after : ℕ) (v : ℤ) → SFits w64 v → QuickPlain C g far v after → Narrow (again64 v)
+pair-narrow C g far after v f q = record { fits = pair-cast C g far after v f q }
+
+pub ruleset narrows = (leaf-narrow, pair-narrow)
+
+module _ (A : List ℕ) (C : List ℤ) (s : List ℕ) (p : ℕ) (h : p < 32740) (first q : ℕ) (ff : first ≡ getD s p 0) (qq : q ≡ cond (eqb first 2) (p + 3) p) (r : ℤ) (fr : SFits w64 r) (after : ℕ) where
+  left-at : (x : ℤ) → Quick A C (within 32768 s q) (q + 10) x after → Placed first (element (arraysOf A) C (word16 s (p + 1)) x) x r
+      → leZ r (pos 2147483647) ≡ true → Held A C (within 32768 s p) (p + 13) r after
+  left-at x k l small = go (ℕ-discrete first 2) (leZ x (pos 2147483647)) refl
+    where
+      go : Dec (first ≡ 2) → (b : Bool) → leZ x (pos 2147483647) ≡ b → Held A C (within 32768 s p) (p + 13) r after
+      go (yes e) true t =
+          let at : q ≡ p + 3 = qq ∙ ap (λ (b : Bool). cond b (p + 3) p) (eq-eqb first 2 e) in
+          let held : Held A C (within 32768 s (p + 3)) (q + 10) x after = rw (← at) (k .held t) in
+          let o = read-held A C s p (omega arith) x r (q + 10) after (sym ff ∙ e) held (l .read e t) in
+          let w = told-small _ r (o .answer) (o .range) small in
+          record { worth = w .0; range = w .1; place = o .place ∙ rw (w .0); near = omega (arith, held .near) }
+      go (yes e) false t = absurd (false≢true (sym t ∙ (rw (l .heavy t) at small)))
+      go (no n) b t =
+          let at : q ≡ p = qq ∙ ap (λ (b : Bool). cond b (p + 3) p) (ne-eqb first 2 n) in
+          let held = k .held (rw (l .other n) at small) in
+          rw (l .other n) (record { worth = rw (← at) (held .worth); range = held .range; place = rw (← at) (held .place); near = omega (arith, held .near) })
+
+  pub left-leaf : (v : ℤ) → SFits w32 v → Plain C (within 32768 s q) (q + 5) v after
+      → Placed first (element (arraysOf A) C (word16 s (p + 1)) (again64 (again v))) (again64 (again v)) r → Quick A C (within 32768 s p) (p + 13) (again64 r) after
+  left-leaf v f o l =
+      let k = o .held A in
+      let held : Held A C (within 32768 s q) (q + 10) v after = record { worth = k .worth; range = f; place = k .place; near = omega (arith, k .near) } in
+      record { held = λ t. rw (toZ-ofZ fr) (left-at (again64 (again v)) (record { held = λ u. rw (wide-is f) held }) l (rw (toZ-ofZ fr) at t)) }
+
+  pub left-pair : (v : ℤ) → SFits w64 v → QuickPlain C (within 32768 s q) (q + 10) v after
+      → Placed first (element (arraysOf A) C (word16 s (p + 1)) (again64 v)) (again64 v) r → Quick A C (within 32768 s p) (p + 13) (again64 r) after
+  left-pair v f o l =
+      record { held = λ t. rw (toZ-ofZ fr) (left-at (again64 v) (rw (toZ-ofZ f) (o .quick A)) l (rw (toZ-ofZ fr) at t)) }
+
+pub ruleset lefts = (left-leaf, left-pair)

@@ -104,6 +104,10 @@ pub record Quick (arrays : List ℕ) (cells : List ℤ) (g : Got) (far : ℕ) (r
 pub record QuickPlain (cells : List ℤ) (g : Got) (far : ℕ) (r : ℤ) (after : ℕ) : Type 0 where
   pub quick : (arrays : List ℕ) → Quick arrays cells g far r after
 
+-- what is not above every value is one
+pub record Narrow (v : ℤ) : Type 0 where
+  pub fits : leZ v (pos 2147483647) ≡ true → SFits w32 v
+
 -- the answer r where v was read first: that of the array w at v where the first byte says so, else v
 pub record Placed (first : ℕ) (w : Worth) (v r : ℤ) : Type 0 where
   pub read : first ≡ 2 → leZ v (pos 2147483647) ≡ true → Packs w r

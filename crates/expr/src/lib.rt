@@ -2,11 +2,8 @@
 use codes::byte;
 use codes::short;
 ghost use mathlib.Core.Path.{_≡_};
-ghost use mathlib.Core.Bool.{true, cond, _||_, _&&_};
+ghost use mathlib.Core.Bool.{cond, _||_, _&&_};
 ghost use lib.Dec.{eqb, ltb};
-ghost use lib.Signed.{leZ};
-ghost use mir.Syntax.{w32};
-ghost use mir.Val.{SFits};
 ghost use Prim.Native.Nat.{_+_, _<_};
 ghost use lib.IntN.{pos};
 ghost use lib.ListN.{getD};
@@ -16,7 +13,7 @@ ghost use Rattle.values.specs.Values.{applyOp};
 ghost use Rattle.expr.specs.Tree.{Worth, worthOf, element};
 ghost use Rattle.expr.specs.Agreement.{isScalar, isArray};
 ghost use Rattle.expr.specs.Bytes.{parse, whole, within};
-ghost use Rattle.expr.specs.Answers.{endOf, Packs, arraysOf, worthAt, readAt, Plain, QuickPlain, Quick, Placed, WorthSays, OnTheWay, truthOf, comparisons, nameOf, seenOf, knownOf};
+ghost use Rattle.expr.specs.Answers.{endOf, Packs, arraysOf, worthAt, readAt, Plain, QuickPlain, Quick, Narrow, Placed, WorthSays, OnTheWay, truthOf, comparisons, nameOf, seenOf, knownOf};
 
 pub enum End {
     At(usize),
@@ -187,14 +184,14 @@ fn pair(bytes: &[u8; 32784], p: usize, next: &mut usize, cells: &[i32; 2048]) ->
 // Where the index of an array read begins, or what is no array read.
 fn inner(p: usize, first: usize) -> usize
     requires { ⌜ p < 32768 ⌝ }
-    ensures { λ r. ⌜ r ≡ cond (eqb first 2) (p + 3) p ⌝ }
+    ensures { λ r. ⌜ (r ≡ cond (eqb first 2) (p + 3) p) × (r < p + 4) ⌝ }
 {
     if first == 2 { p + 3 } else { p }
 }
 
 // What v is where it is an array read's index, or v itself.
 fn placed(bytes: &[u8; 32784], p: usize, first: usize, v: i64, cells: &[i32; 2048], arrays: &[u16; 32]) -> i64
-    requires { ⌜ (p < 32768) × (leZ v (pos 2147483647) ≡ true → SFits w32 v) ⌝ }
+    requires { ⌜ (p < 32768) × Narrow v ⌝ }
     ensures { λ r. ⌜ Placed first (element (arraysOf (now (arrays .entry))) (now (cells .entry)) (word16 (now (bytes .entry)) (p + 1)) v) v r ⌝ }
 {
     if first == 2 {

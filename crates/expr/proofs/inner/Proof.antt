@@ -1,4 +1,5 @@
 -- `expr::inner` meets its contract: the cases of `Quickly`. Assumes nothing.
+use native.Mathlib.Omega.{arith}
 use borrow.Author.Needs.{needs}
 use Rattle.expr.proofs.Quickly.{readers}
 use Rattle.expr.proofs.inner.Statement.{statement}
@@ -9,5 +10,5 @@ inner-spec =
     tie.close
     (tie.spec
     (λ c. search needs)
-    (λ c. search readers)
-    (λ c. search readers))
+    (λ c. (search readers, omega arith))
+    (λ c. (search readers, omega arith)))
