@@ -5,6 +5,7 @@ pub mod Agree
 pub mod Ends
 pub mod Values
 pub mod Quickly
+pub mod Truths
 pub mod Names
 pub mod Knowns
 pub mod Vectors

@@ -1,7 +1,7 @@
 -- The answers of the quick ways, case by case, over plain numbers and lists. Assumes nothing.
 use mathlib.Core.Path.{_≡_, refl, sym, ap, _∙_}
 use mathlib.Core.List.{List, []}
-use mathlib.Core.Bool.{Bool, true, false, false≢true, cond}
+use mathlib.Core.Bool.{Bool, true, false, not, false≢true, cond}
 use Prim.Native.Nat.{ℕ, _+_, _≤_, _<_}
 use native.Mathlib.Omega.{arith}
 use native.Mathlib.Decide.{ℕ-discrete}
@@ -22,7 +22,7 @@ use Rattle.values.proofs.Laws.{apply-fits}
 use Rattle.expr.specs.Tree.{byZero, badIndex, Worth, value, stop, worthOf, element, eval}
 use Rattle.expr.specs.Bytes.{Got, within}
 use Rattle.expr.specs.Answers.{packedWorth, InCell, Packs, arraysOf, worthAt, readAt, OnTheWay, Held, Plain, Quick, QuickPlain, Narrow, Placed}
-use Rattle.expr.proofs.Values.{again, again64, at-end}
+use Rattle.expr.proofs.Values.{again, again64, at-end, passed-on}
 use Rattle.expr.proofs.Layer.{within-con, within-var, within-read, within-bin}
 
 -- ---- the readers, and where an index begins
@@ -182,3 +182,50 @@ module _ (A : List ℕ) (C : List ℤ) (s : List ℕ) (p : ℕ) (h : p < 32740) 
       record { held = λ t. rw (toZ-ofZ fr) (left-at (again64 v) (rw (toZ-ofZ f) (o .quick A)) l (rw (toZ-ofZ fr) at t)) }
 
 pub ruleset lefts = (left-leaf, left-pair)
+
+-- ---- `value` and `operated`
+module _ (A : List ℕ) (C : List ℤ) (s : List ℕ) (p : ℕ) where
+  abbrev Goes : ℤ → ℕ → Type 0
+  Goes r after = OnTheWay (worthAt A C (within 32768 s p)) (within 32768 s p .next) r after
+
+  module _ (h : p < 32736) (first a : ℕ) (two : first ≡ 2) (r : ℤ) (fr : SFits w64 r) (after far : ℕ) where
+    pub value-leaf : (v : ℤ) → SFits w32 v → Plain C (within 32768 s (p + 3)) far v after → Packs (element (arraysOf A) C a (again v)) r → a ≡ word16 s (p + 1)
+        → first ≡ getD s p 0 → Goes (again64 r) after
+    value-leaf v f o k ab ff =
+        rw (toZ-ofZ fr) (read-held A C s p (omega arith) v r far after (sym ff ∙ two) (o .held A) (rw (← ab) (rw (toZ-ofZ f) at k)))
+
+    pub value-pair : (i : ℤ) → leZ (again64 i) (pos 2147483647) ≡ true → SFits w64 i → QuickPlain C (within 32768 s (p + 3)) far i after
+        → Packs (element (arraysOf A) C a (again (again64 i))) r → a ≡ word16 s (p + 1) → first ≡ getD s p 0 → Goes (again64 r) after
+    value-pair i t f o k ab ff =
+        let held = o .quick A .held (rw (toZ-ofZ f) at t) in
+        let same : again (again64 i) ≡ i = ap again (toZ-ofZ f) ∙ toZ-ofZ (held .range) in
+        rw (toZ-ofZ fr) (read-held A C s p (omega arith) i r far after (sym ff ∙ two) held (rw (← ab) (rw same at k)))
+
+  module _ (l : ℤ) (fl : SFits w64 l) (mid far : ℕ) (t : leZ (again64 l) (pos 2147483647) ≡ true) (k : Quick A C (within 32768 s (p + 2)) far l mid) where
+    left-held : Held A C (within 32768 s (p + 2)) far l mid
+    left-held = k .held (rw (toZ-ofZ fl) at t)
+
+    -- the left side ends near, and can be cast
+    pub mid-near : mid ≤ far
+    mid-near = left-held .near
+
+    pub left-cast : SFits w32 (again64 l)
+    left-cast = rw (toZ-ofZ fl) (left-held .range)
+
+    pub operated-is : (y v : ℤ) (o after : ℕ) → p < 32736 → 2 < getD s p 0 → SFits w32 y → SFits w64 v → leZ (again64 v) (pos 2147483647) ≡ true
+        → Plain C (within 32768 s mid) (mid + 5) y after → v ≡ only (not (divides o)) (applyOp o (again (again64 l)) (again y)) → o ≡ getD s (p + 1) 0
+        → Goes (again64 v) after
+    operated-is y v o after h big fy fv u d e oo =
+        let same : again (again64 l) ≡ l = ap again (toZ-ofZ fl) ∙ toZ-ofZ (left-held .range) in
+        let q : v ≡ only (not (divides o)) (applyOp o l y) = rw (same, toZ-ofZ fy) at e in
+        let w = only-small (not (divides o)) (applyOp o l y) v q (apply-fits o l y (left-held .range) fy) (rw (toZ-ofZ fv) at u) in
+        let b = bin-held A C s p (omega arith) l y v mid (mid + 5) after (mid + 5) big (left-held .worth) (sym (left-held .place)) (d .held A) (rw (← oo) (w .0)) (w .1) (omega arith) in
+        rw (toZ-ofZ fv) (record { answer = rw (b .worth); range = rw (b .worth) (w .1); place = rw (b .worth) (b .place) })
+
+pub ruleset quick-casts = (pair-cast)
+
+pub ruleset left-casts = (left-cast)
+
+pub ruleset values = (passed-on, value-leaf, value-pair)
+
+pub ruleset operateds = (passed-on, operated-is)

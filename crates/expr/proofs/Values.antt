@@ -187,12 +187,12 @@ module _ (A : List ℕ) (C : List ℤ) (s : List ℕ) (at : ℕ) where
       bin-is : within 32768 s at ≡ gotIf (eqb tag 3) (gotBin (getD s (at + 1) 0) (within 32768 s (at + 2)) (within 32768 s (within 32768 s (at + 2) .next)))
       bin-is = within-bin 32768 s at near tag tg (λ e. omega arith) (λ e. omega arith) n2
 
-      pub left-stop : ltZ (pos 2147483647) (again64 l) ≡ true → Goes (again64 l) mid
+      pub left-stop : (after : ℕ) → ltZ (pos 2147483647) (again64 l) ≡ true → Goes (again64 l) after
       unfolding eval
-      left-stop t =
+      left-stop after t =
           let w = told-stop _ _ l mid lo fl t in
           let e = ap (λ (x : Worth). both (getD s (at + 1) 0) x (worthAt A C (within 32768 s (within 32768 s (at + 2) .next)))) (w .1 .0) in
-          rw bin-is (way-stop _ _ (w .0) (again64 l) mid e (w .1 .1))
+          rw bin-is (way-stop _ _ (w .0) (again64 l) after e (w .1 .1))
 
       module _ (tl : ltZ (pos 2147483647) (again64 l) ≡ false) (r : ℤ) (after : ℕ)
           (ro : OnTheWay (worthAt A C (within 32768 s mid)) (within 32768 s mid .next) r after) (fr : SFits w64 r) where

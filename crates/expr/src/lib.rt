@@ -10,10 +10,10 @@ ghost use lib.ListN.{getD};
 ghost use Rattle.codes.specs.Codes.{word16};
 ghost use Rattle.codes.specs.Numbers.{word32, cellAt};
 ghost use Rattle.values.specs.Values.{applyOp};
-ghost use Rattle.expr.specs.Tree.{Worth, worthOf, element};
+ghost use Rattle.expr.specs.Tree.{worthOf, element};
 ghost use Rattle.expr.specs.Agreement.{isScalar, isArray};
 ghost use Rattle.expr.specs.Bytes.{parse, whole, within};
-ghost use Rattle.expr.specs.Answers.{endOf, Packs, arraysOf, worthAt, readAt, Plain, QuickPlain, Quick, Narrow, Placed, WorthSays, OnTheWay, truthOf, comparisons, nameOf, seenOf, knownOf};
+ghost use Rattle.expr.specs.Answers.{endOf, Packs, arraysOf, worthAt, readAt, Plain, QuickPlain, Quick, Narrow, Placed, WorthSays, OnTheWay, truthOf, Packed, Verdict, comparisons, nameOf, seenOf, knownOf};
 
 pub enum End {
     At(usize),
@@ -344,8 +344,8 @@ pub fn amount(bytes: &[u8; 32784], at: &mut usize, cells: &[i32; 2048], arrays: 
 
 // What a packed worth says as a condition.
 fn verdict(w: i64) -> u8
-    requires { ⌜ ((x : Worth) × Packs x w) ⌝ }
-    ensures { λ r. ⌜ ((x : Worth) → Packs x w → r ≡ truthOf x) ⌝ }
+    requires { ⌜ Packed w ⌝ }
+    ensures { λ r. ⌜ Verdict w r ⌝ }
 {
     if w > MOST {
         return (w - 4294967296) as u8;
