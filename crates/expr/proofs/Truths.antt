@@ -180,4 +180,4 @@ module _ (A : List ℕ) (C : List ℤ) (s : List ℕ) (at : ℕ) where
       let k : at + 5 + 1 ≡ at + 6 = omega arith in
       rw (b, n, v, c, i, j, k, ← d .2, ← ll, ← yy, ← oo) (rw (toZ-ofZ fl, toZ-ofZ fy) at rr)
 
-pub ruleset truths = (some-worth, verdict-of, is-comparison, quick-compares)
+pub ruleset truths = (some-worth, verdict-of, quick-compares)
