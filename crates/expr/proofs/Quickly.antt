@@ -102,13 +102,13 @@ module _ (C : List ℤ) (s : List ℕ) (at after : ℕ) where
       let q : v ≡ only (counts o) (applyOp o x y) = rw (toZ-ofZ fx, toZ-ofZ fy) at p in
       record {
         quick = λ A.
-        record {
-          held = λ small.
-          let w = only-small (counts o) (applyOp o x y) v q (apply-fits o x y fx fy) (rw (toZ-ofZ fv) at small) in
-          rw (toZ-ofZ fv)
-          (bin-held A C s at (omega arith) x y v (at + 5) (at + 5 + 5) after (at + 10) (omega arith) (rw (g, k) (ap value (sym xx))) (rw g (omega arith))
-          (yy .held A) (rw (← oo) (w .0)) (w .1) (omega arith));
-        };
+            record {
+              held = λ small.
+                  let w = only-small (counts o) (applyOp o x y) v q (apply-fits o x y fx fy) (rw (toZ-ofZ fv) at small) in
+                  rw (toZ-ofZ fv)
+                  (bin-held A C s at (omega arith) x y v (at + 5) (at + 5 + 5) after (at + 10) (omega arith) (rw (g, k) (ap value (sym xx))) (rw g (omega arith))
+                  (yy .held A) (rw (← oo) (w .0)) (w .1) (omega arith));
+            };
       }
 
 pub ruleset pairs = (pair-none, pair-is)

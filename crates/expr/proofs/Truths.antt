@@ -5,7 +5,7 @@ use mathlib.Core.Bool.{Bool, true, false, not, _&&_, false≢true, cond}
 use Prim.Native.Nat.{ℕ, zero, suc, _+_, _-_, _*_, _/_, _%_, _^_, _≤_, _<_}
 use native.Mathlib.Omega.{arith}
 use native.Mathlib.Decide.{ℕ-discrete}
-use borrow.Author.Tests.{lt-ltb, le-ltb, ltb-true, lt-leb, le-leb, leb-true, leb-false, eq-eqb, ne-eqb}
+use borrow.Author.Tests.{lt-ltb, le-ltb, ltb-true, le-leb, leb-true, leb-false, eq-eqb, ne-eqb}
 use lib.Dec.{T, ltb, leb, eqb}
 use lib.IntN.{ℤ, pos, negsuc, natAbs, _-ℤ_}
 use lib.ListN.{getD}
@@ -13,11 +13,10 @@ use lib.Signed.{ltZ, leZ, nonNeg}
 use mir.Syntax.{w8, w32, w64}
 use mir.Val.{SFits, Fits, ofZ, boolByte}
 use mir.Facts.{toZ-ofZ, sfits-lit}
-use Rattle.codes.specs.Codes.{word16}
 use Rattle.codes.specs.Numbers.{word32, cellAt}
 use Rattle.values.specs.Values.{isTrue, eqZ, applyOp}
 use Rattle.values.proofs.Bits.{bits-eq}
-use Rattle.expr.specs.Tree.{Fault, byZero, badIndex, Worth, value, stop, worthOf, eval}
+use Rattle.expr.specs.Tree.{Fault, byZero, badIndex, Worth, stop, worthOf, eval}
 use Rattle.expr.specs.Bytes.{within}
 use Rattle.expr.specs.Answers.{faultNumber, packedWorth, Packs, worthAt, OnTheWay, truthOf, Packed, Verdict, comparisons}
 use Rattle.expr.proofs.Values.{again, again64, is-stop, is-value}

@@ -2,10 +2,10 @@
 use mathlib.Core.Path.{_≡_, refl, sym, ap, _∙_}
 use mathlib.Core.List.{List}
 use mathlib.Core.Bool.{true, false, false≢true, true≢false}
-use Prim.Native.Nat.{ℕ, zero, suc, _+_, _^_, _≤_, _<_}
+use Prim.Native.Nat.{ℕ, _+_, _^_, _≤_, _<_}
 use native.Mathlib.Nat.{add-comm}
 use native.Mathlib.Omega.{arith}
-use borrow.Author.Tests.{lt-ltb, le-ltb, ltb-true, eq-eqb, ne-eqb}
+use borrow.Author.Tests.{lt-ltb, le-ltb, ltb-true}
 use lib.Dec.{eqb}
 use lib.IntN.{ℤ, pos, negsuc}
 use lib.ListN.{getD, take, drop, length-take, List·getD-eq-default}
@@ -230,12 +230,6 @@ module _ (A : List ℕ) (C : List ℤ) (s : List ℕ) (at : ℕ) where
 pub ruleset deeps = (leaf-on, value-out, value-read, left-stop, right-stop, value-bin)
 
 pub ruleset operands = (passed-on, value-out, value-con, value-var)
-
--- ---- where the position afterwards is not asked
-pub packs-on : (w : Worth) (next : ℕ) (r : ℤ) (after : ℕ) → SFits w64 r → OnTheWay w next r after → Packs w (again64 r)
-packs-on w next r after f o = rw (toZ-ofZ f) (record { answer = o .answer; range = o .range })
-
-pub ruleset packings = (packs-on)
 
 -- ---- the whole: a refusal puts the position back
 module _ (A : List ℕ) (C : List ℤ) (g : Got) (r : ℤ) (after : ℕ) (o : OnTheWay (worthAt A C g) (g .next) r after) (f : SFits w64 r) where

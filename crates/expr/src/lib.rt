@@ -190,7 +190,14 @@ fn inner(p: usize, first: usize) -> usize
 }
 
 // What v is where it is an array read's index, or v itself.
-fn placed(bytes: &[u8; 32784], p: usize, first: usize, v: i64, cells: &[i32; 2048], arrays: &[u16; 32]) -> i64
+fn placed(
+    bytes: &[u8; 32784],
+    p: usize,
+    first: usize,
+    v: i64,
+    cells: &[i32; 2048],
+    arrays: &[u16; 32],
+) -> i64
     requires { ⌜ (p < 32768) × Narrow v ⌝ }
     ensures { λ r. ⌜ Placed first (element (arraysOf (now (arrays .entry))) (now (cells .entry)) (word16 (now (bytes .entry)) (p + 1)) v) v r ⌝ }
 {
@@ -203,7 +210,13 @@ fn placed(bytes: &[u8; 32784], p: usize, first: usize, v: i64, cells: &[i32; 204
 }
 
 // The left side of an operator: a constant, a scalar, a `pair`, or an array read at one of these; else above every value.
-fn left(bytes: &[u8; 32784], p: usize, next: &mut usize, cells: &[i32; 2048], arrays: &[u16; 32]) -> i64
+fn left(
+    bytes: &[u8; 32784],
+    p: usize,
+    next: &mut usize,
+    cells: &[i32; 2048],
+    arrays: &[u16; 32],
+) -> i64
     requires { ⌜ p < 32740 ⌝ }
     ensures { λ r. ⌜ Quick (now (arrays .entry)) (now (cells .entry)) (within 32768 (now (bytes .entry)) p) (p + 13) r (now (next .exit)) ⌝ }
 {
@@ -222,7 +235,13 @@ fn left(bytes: &[u8; 32784], p: usize, next: &mut usize, cells: &[i32; 2048], ar
 // A constant and a scalar, which nearly every operand is, need no call.
 // The five that follow call each other. Where n bytes are left before 32,768, what falls at every call is 5n + 4 for `operand`,
 // 5n + 3 for `value`, 5n + 2 for `operated`, 5n + 1 for `deep` and 5n for `read_at`.
-fn operand(bytes: &[u8; 32784], p: usize, next: &mut usize, cells: &[i32; 2048], arrays: &[u16; 32]) -> i64
+fn operand(
+    bytes: &[u8; 32784],
+    p: usize,
+    next: &mut usize,
+    cells: &[i32; 2048],
+    arrays: &[u16; 32],
+) -> i64
     ensures { λ r. ⌜ OnTheWay (worthAt (now (arrays .entry)) (now (cells .entry)) (within 32768 (now (bytes .entry)) p)) (within 32768 (now (bytes .entry)) p .next) r (now (next .exit)) ⌝ }
 {
     if 32768 <= p {
@@ -242,7 +261,13 @@ fn operand(bytes: &[u8; 32784], p: usize, next: &mut usize, cells: &[i32; 2048],
 }
 
 // The same of an operator or an array read: first the quick ways, for which no byte's position is tested.
-fn value(bytes: &[u8; 32784], p: usize, next: &mut usize, cells: &[i32; 2048], arrays: &[u16; 32]) -> i64
+fn value(
+    bytes: &[u8; 32784],
+    p: usize,
+    next: &mut usize,
+    cells: &[i32; 2048],
+    arrays: &[u16; 32],
+) -> i64
     requires { ⌜ 1 < getD (now bytes) p 0 ⌝ }
     ensures { λ r. ⌜ OnTheWay (worthAt (now (arrays .entry)) (now (cells .entry)) (within 32768 (now (bytes .entry)) p)) (within 32768 (now (bytes .entry)) p .next) r (now (next .exit)) ⌝ }
 {
@@ -264,7 +289,13 @@ fn value(bytes: &[u8; 32784], p: usize, next: &mut usize, cells: &[i32; 2048], a
 }
 
 // The same of an operator: the quick way is for a right side that is a constant or a scalar, and no division.
-fn operated(bytes: &[u8; 32784], p: usize, next: &mut usize, cells: &[i32; 2048], arrays: &[u16; 32]) -> i64
+fn operated(
+    bytes: &[u8; 32784],
+    p: usize,
+    next: &mut usize,
+    cells: &[i32; 2048],
+    arrays: &[u16; 32],
+) -> i64
     requires { ⌜ (p < 32736) × (2 < getD (now bytes) p 0) ⌝ }
     ensures { λ r. ⌜ OnTheWay (worthAt (now (arrays .entry)) (now (cells .entry)) (within 32768 (now (bytes .entry)) p)) (within 32768 (now (bytes .entry)) p .next) r (now (next .exit)) ⌝ }
 {
@@ -284,7 +315,13 @@ fn operated(bytes: &[u8; 32784], p: usize, next: &mut usize, cells: &[i32; 2048]
 }
 
 // The same of any expression, with no quick way.
-fn deep(bytes: &[u8; 32784], p: usize, next: &mut usize, cells: &[i32; 2048], arrays: &[u16; 32]) -> i64
+fn deep(
+    bytes: &[u8; 32784],
+    p: usize,
+    next: &mut usize,
+    cells: &[i32; 2048],
+    arrays: &[u16; 32],
+) -> i64
     ensures { λ r. ⌜ OnTheWay (worthAt (now (arrays .entry)) (now (cells .entry)) (within 32768 (now (bytes .entry)) p)) (within 32768 (now (bytes .entry)) p .next) r (now (next .exit)) ⌝ }
 {
     if 32768 <= p {
@@ -311,7 +348,13 @@ fn deep(bytes: &[u8; 32784], p: usize, next: &mut usize, cells: &[i32; 2048], ar
 }
 
 // What the array read at p is worth: its number stands behind the first byte, then its index.
-fn read_at(bytes: &[u8; 32784], p: usize, next: &mut usize, cells: &[i32; 2048], arrays: &[u16; 32]) -> i64
+fn read_at(
+    bytes: &[u8; 32784],
+    p: usize,
+    next: &mut usize,
+    cells: &[i32; 2048],
+    arrays: &[u16; 32],
+) -> i64
     requires { ⌜ p < 32768 ⌝ }
     ensures { λ r. ⌜ OnTheWay (readAt (now (arrays .entry)) (now (cells .entry)) (word16 (now (bytes .entry)) (p + 1)) (within 32768 (now (bytes .entry)) (p + 3))) (within 32768 (now (bytes .entry)) (p + 3) .next) r (now (next .exit)) ⌝ }
 {

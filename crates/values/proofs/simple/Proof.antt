@@ -1,12 +1,12 @@
 -- `values::simple` meets its contract, an arm for each operator. Assumes nothing.
-use mathlib.Core.Path.{_≡_, refl, ap, ap₂, _∙_}
+use mathlib.Core.Path.{_≡_, ap, ap₂, _∙_}
 use mathlib.Core.Bool.{false}
 use Prim.Native.Nat.{ℕ, _≤_}
 use borrow.Author.Needs.{needs}
 use borrow.Author.Tests.{le-ltb, ne-eqb}
-use lib.IntN.{ℤ, _+ℤ_, _-ℤ_, _*ℤ_}
+use lib.IntN.{_+ℤ_, _-ℤ_, _*ℤ_}
 use mir.Facts.{toZ-ofZ, fits-ofZ, fits-and, fits-or}
-use Rattle.values.specs.Values.{Value, wrap, xorZ, applyOp}
+use Rattle.values.specs.Values.{Value, wrap, xorZ}
 use Rattle.values.specs.Packed.{counts, only}
 use Rattle.values.proofs.Bits.{in32, wide-fits, wide-back, bits-read, beyond}
 use Rattle.values.proofs.Arms.{bitwise, arm}
