@@ -113,7 +113,7 @@ module _ (w : Worth) (next : ℕ) where
   way-stop g r after e q = record { answer = q ∙ ap packedWorth (sym e); range = rw e tt; place = rw e }
 
   -- an answer that is passed on
-  pub way-on : (r : ℤ) (after : ℕ) → SFits w64 r → OnTheWay w next r after → OnTheWay w next (again64 r) after
+  way-on : (r : ℤ) (after : ℕ) → SFits w64 r → OnTheWay w next r after → OnTheWay w next (again64 r) after
   way-on r after f o = rw (toZ-ofZ f) o
 
 -- what an answer says of the tree's worth, by the test that tells
@@ -151,7 +151,7 @@ module _ (A : List ℕ) (C : List ℤ) (b : ℕ) (g : Got) (i : ℤ) (after : �
 pub ruleset reads = (read-stop, read-value)
 
 -- ---- an operator's answer
-pub packed-worth : (v : Value) → packed v ≡ packedWorth (worthOf v)
+packed-worth : (v : Value) → packed v ≡ packedWorth (worthOf v)
 packed-worth (is v) = refl
 packed-worth zeroDivisor = refl
 

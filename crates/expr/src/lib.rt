@@ -98,7 +98,7 @@ fn element_at(cells: &[i32; 2048], arrays: &[u16; 32], a: usize, index: i32) -> 
     BAD_INDEX
 }
 
-// A quick way's answer that it is not one for this expression: above every value, as a refusal is.
+// What a quick way answers where it is none for this expression: above every value, as a refusal is.
 const ANOTHER: i64 = 8589934592;
 
 // A byte as a number, with the bound that sums of it need.
@@ -108,7 +108,7 @@ fn tiny(b: u8) -> usize
     b as usize
 }
 
-// The byte at i. An expression stands before 32,768 and the array is longer, so that nothing is tested here and in what follows.
+// The byte at i. An expression begins before 32,768 and the array is longer, so that no read here asks where it ends.
 fn one(bytes: &[u8; 32784], i: usize) -> usize
     requires { ⌜ i < 32784 ⌝ }
     ensures { λ r. ⌜ (r ≡ getD (now (bytes .entry)) i 0) × (r < 256) ⌝ }
@@ -260,7 +260,7 @@ fn operand(
     value(bytes, p, next, cells, arrays)
 }
 
-// The same of an operator or an array read: first the quick ways, for which no byte's position is tested.
+// The same of an operator or an array read: first the quick ways, all of whose bytes one test of the position allows.
 fn value(
     bytes: &[u8; 32784],
     p: usize,
