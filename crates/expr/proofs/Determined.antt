@@ -9,6 +9,7 @@ use Rattle.expr.proofs.Format.{says}
 use Rattle.expr.proofs.expression_end.Reads as expression-end
 use Rattle.expr.proofs.worth.Reads as worth
 use Rattle.expr.proofs.amount.Reads as amount
+use Rattle.expr.proofs.truth.Reads as truth
 use Rattle.expr.proofs.mentions.Reads as mentions
 use Rattle.expr.proofs.names_known.Reads as names-known
 
@@ -28,6 +29,9 @@ module _ (κs : Lfts 1) where
 
 pub worth-determined : (κs : Lfts 3) (a : _) (r r′ : _) (s s′ : _) → worth.Post κs a r s → worth.Post κs a r′ s′ → r ≡ r′
 worth-determined κs a r r′ s s′ p q = p .answer ∙ sym (q .answer)
+
+pub truth-determined : (κs : Lfts 3) (a : _) (r r′ : _) (s s′ : _) → truth.Post κs a r s → truth.Post κs a r′ s′ → r ≡ r′
+truth-determined κs a r r′ s s′ p q = p ∙ sym q
 
 -- the answer, and the position afterwards
 pub amount-determined : (κs : Lfts 4) (a : _) (r r′ : _) (s s′ : _) → amount.Post κs a r s → amount.Post κs a r′ s′

@@ -4,6 +4,8 @@ pub mod Format
 pub mod Agree
 pub mod Ends
 pub mod Values
+pub mod Quickly
+pub mod Truths
 pub mod Names
 pub mod Knowns
 pub mod Vectors

@@ -1,11 +1,11 @@
--- The answers of `element_at`, `value_at`, `read_at` and `worth`, case by case, over plain numbers and lists. Assumes nothing.
+-- The answers of `element_at`, `deep`, `read_at`, `operand`, `worth` and `amount`, case by case, over plain numbers and lists. Assumes nothing.
 use mathlib.Core.Path.{_≡_, refl, sym, ap, _∙_}
 use mathlib.Core.List.{List}
 use mathlib.Core.Bool.{true, false, false≢true, true≢false}
-use Prim.Native.Nat.{ℕ, zero, suc, _+_, _^_, _≤_, _<_}
+use Prim.Native.Nat.{ℕ, _+_, _^_, _≤_, _<_}
 use native.Mathlib.Nat.{add-comm}
 use native.Mathlib.Omega.{arith}
-use borrow.Author.Tests.{lt-ltb, le-ltb, ltb-true, eq-eqb, ne-eqb}
+use borrow.Author.Tests.{lt-ltb, le-ltb, ltb-true}
 use lib.Dec.{eqb}
 use lib.IntN.{ℤ, pos, negsuc}
 use lib.ListN.{getD, take, drop, length-take, List·getD-eq-default}
@@ -23,15 +23,15 @@ use Rattle.values.proofs.Laws.{apply-fits}
 use Rattle.expr.specs.Tree.{Fault, byZero, badIndex, Worth, value, stop, worthOf, element, eval}
 use Rattle.expr.specs.Agreement.{both, indexed}
 use Rattle.expr.specs.Bytes.{Got, gotIf, gotBin, within}
-use Rattle.expr.specs.Answers.{packedWorth, unpacked, InCell, Packs, leafSize, leafIn, movedTo, arraysOf, worthAt, readAt, WorthSays, OnTheWay}
+use Rattle.expr.specs.Answers.{packedWorth, unpacked, InCell, Packs, movedTo, arraysOf, worthAt, readAt, Plain, WorthSays, OnTheWay}
 use Rattle.expr.proofs.Agree.{worth-fits}
 use Rattle.expr.proofs.Layer.{within-out, within-con, within-var, within-read, within-bin, within-grows}
 
 -- a signed number that was put in a variable, a field or an argument is read back from its bits
-abbrev again : ℤ → ℤ
+abbrev pub again : ℤ → ℤ
 again z = toZ w32 (ofZ w32 z)
 
-abbrev again64 : ℤ → ℤ
+abbrev pub again64 : ℤ → ℤ
 again64 z = toZ w64 (ofZ w64 z)
 
 pub widened : (v : ℤ) → SFits w32 v → SFits w64 (again v)
@@ -39,12 +39,12 @@ widened v f = wide-fits f
 
 -- ---- an answer is told by one test: it is above every value where it is a refusal
 module _ (r : ℤ) (f : SFits w64 r) where
-  is-stop : (w : Worth) → r ≡ packedWorth w → InCell w → ltZ (pos 2147483647) (again64 r) ≡ true → (g : Fault) × (w ≡ stop g)
+  pub is-stop : (w : Worth) → r ≡ packedWorth w → InCell w → ltZ (pos 2147483647) (again64 r) ≡ true → (g : Fault) × (w ≡ stop g)
   is-stop (stop g) e k t = (g, refl)
   is-stop (value (pos n)) e k t = absurd (omega (arith, ltb-true 2147483647 n (rw (toZ-ofZ f, e) at t)))
   is-stop (value (negsuc n)) e k t = absurd (false≢true (rw (toZ-ofZ f, e) at t))
 
-  is-value : (w : Worth) → r ≡ packedWorth w → InCell w → ltZ (pos 2147483647) (again64 r) ≡ false → (w ≡ value r) × SFits w32 r
+  pub is-value : (w : Worth) → r ≡ packedWorth w → InCell w → ltZ (pos 2147483647) (again64 r) ≡ false → (w ≡ value r) × SFits w32 r
   is-value (value v) e k t = (ap value (sym e), rw e k)
   is-value (stop byZero) e k t = absurd (true≢false (rw (toZ-ofZ f, e) at t))
   is-value (stop badIndex) e k t = absurd (true≢false (rw (toZ-ofZ f, e) at t))
@@ -125,7 +125,7 @@ module _ (w : Worth) (next : ℕ) (r : ℤ) (after : ℕ) (o : OnTheWay w next r
   told-value t = let s = is-value r f w (o .answer) (o .range) t in (s .0, (s .1, o .place ∙ ap (λ (w : Worth). movedTo w after next) (s .0)))
 
 -- where the position is the tree's end in any case
-at-end : (w : Worth) (after next : ℕ) → after ≡ next → after ≡ movedTo w after next
+pub at-end : (w : Worth) (after next : ℕ) → after ≡ next → after ≡ movedTo w after next
 at-end (value v) after next e = e
 at-end (stop g) after next e = refl
 
@@ -182,17 +182,17 @@ module _ (A : List ℕ) (C : List ℤ) (s : List ℕ) (at : ℕ) where
     unfolding eval
     value-read r after e f o = rw (within-read 32768 s at near tag tg e) (way-on _ _ r after f o)
 
-    module _ (big : 1 < getD s at 0) (n2 : tag ≡ 2 → ⊥) (l : ℤ) (mid : ℕ)
+    module _ (big : 2 ≤ tag) (n2 : tag ≡ 2 → ⊥) (l : ℤ) (mid : ℕ)
         (lo : OnTheWay (worthAt A C (within 32768 s (at + 2))) (within 32768 s (at + 2) .next) l mid) (fl : SFits w64 l) where
       bin-is : within 32768 s at ≡ gotIf (eqb tag 3) (gotBin (getD s (at + 1) 0) (within 32768 s (at + 2)) (within 32768 s (within 32768 s (at + 2) .next)))
       bin-is = within-bin 32768 s at near tag tg (λ e. omega arith) (λ e. omega arith) n2
 
-      pub left-stop : ltZ (pos 2147483647) (again64 l) ≡ true → Goes (again64 l) mid
+      pub left-stop : (after : ℕ) → ltZ (pos 2147483647) (again64 l) ≡ true → Goes (again64 l) after
       unfolding eval
-      left-stop t =
+      left-stop after t =
           let w = told-stop _ _ l mid lo fl t in
           let e = ap (λ (x : Worth). both (getD s (at + 1) 0) x (worthAt A C (within 32768 s (within 32768 s (at + 2) .next)))) (w .1 .0) in
-          rw bin-is (way-stop _ _ (w .0) (again64 l) mid e (w .1 .1))
+          rw bin-is (way-stop _ _ (w .0) (again64 l) after e (w .1 .1))
 
       module _ (tl : ltZ (pos 2147483647) (again64 l) ≡ false) (r : ℤ) (after : ℕ)
           (ro : OnTheWay (worthAt A C (within 32768 s mid)) (within 32768 s mid .next) r after) (fr : SFits w64 r) where
@@ -223,60 +223,13 @@ module _ (A : List ℕ) (C : List ℤ) (s : List ℕ) (at : ℕ) where
   pub passed-on : (r : ℤ) (after : ℕ) → SFits w64 r → Goes r after → Goes (again64 r) after
   passed-on r after f o = way-on _ _ r after f o
 
-pub ruleset compounds = (value-out, value-read, left-stop, right-stop, value-bin)
+  -- a constant or a scalar
+  pub leaf-on : (v : ℤ) (far after : ℕ) → SFits w32 v → Plain C (within 32768 s at) far v after → Goes (again64 (again v)) after
+  leaf-on v far after f o = let h = o .held A in rw (h .place) (way-value _ _ v (h .worth) f)
+
+pub ruleset deeps = (leaf-on, value-out, value-read, left-stop, right-stop, value-bin)
 
 pub ruleset operands = (passed-on, value-out, value-con, value-var)
-
--- ---- where the position afterwards is not asked
-pub packs-on : (w : Worth) (next : ℕ) (r : ℤ) (after : ℕ) → SFits w64 r → OnTheWay w next r after → Packs w (again64 r)
-packs-on w next r after f o = rw (toZ-ofZ f) (record { answer = o .answer; range = o .range })
-
-pub packs-same : (w : Worth) (r : ℤ) → SFits w64 r → Packs w r → Packs w (again64 r)
-packs-same w r f o = rw (toZ-ofZ f) o
-
-pub ruleset packings = (packs-on, packs-same)
-
--- ---- a constant or a scalar
-pub size-con : (tag : ℕ) → tag ≡ 0 → 5 ≡ leafSize tag
-size-con tag e = rw (eq-eqb tag 0 e)
-
-pub size-var : (tag : ℕ) → (tag ≡ 0 → ⊥) → 3 ≡ leafSize tag
-size-var tag e = rw (ne-eqb tag 0 e)
-
-module _ (s : List ℕ) (C : List ℤ) (tag at : ℕ) (v : ℤ) (f : SFits w32 v) where
-  pub leaf-con : tag ≡ 0 → v ≡ cellAt s (at + 1) → again v ≡ leafIn s C tag at
-  leaf-con e p = rw (eq-eqb tag 0 e) (toZ-ofZ f ∙ p)
-
-  pub leaf-var : (x : ℕ) → (tag ≡ 0 → ⊥) → v ≡ getD C x (pos 0) → x ≡ word16 s (at + 1) → again v ≡ leafIn s C tag at
-  leaf-var x e p q = rw (ne-eqb tag 0 e, ← q) (toZ-ofZ f ∙ p)
-
-pub ruleset leaves = (size-con, size-var, leaf-con, leaf-var)
-
--- ---- an operator on two constants or scalars
-module _ (A : List ℕ) (C : List ℤ) (s : List ℕ) where
-  -- what stands at a constant or scalar
-  leaf-at : (at tag : ℕ) → at < 32768 → tag ≡ getD s at 0 → tag < 2 → (worthAt A C (within 32768 s at) ≡ value (leafIn s C tag at)) × (within 32768 s at .next ≡ at + leafSize tag)
-  unfolding eval
-  leaf-at at zero h tg k = let e = within-con 32768 s at h 0 tg refl in (rw e refl, rw e refl)
-  leaf-at at (suc zero) h tg k = let e = within-var 32768 s at h 1 tg refl in (rw e refl, rw e refl)
-  leaf-at at (suc (suc n)) h tg k = absurd (omega arith)
-
-  pub pair-is : (at : ℕ) → at < 32752 → getD s at 0 ≡ 3 → (l z r mid o : ℕ) (x y v : ℤ) → l ≡ getD s (at + 2) 0 → l < 2 → z ≡ leafSize l → z < 6 → mid ≡ at + 2 + z → r ≡ getD s mid 0 → r < 2
-      → SFits w32 x → SFits w32 y → x ≡ leafIn s C l (at + 2) → y ≡ leafIn s C r mid → SFits w64 v → v ≡ packed (applyOp o (again x) (again y)) → o ≡ getD s (at + 1) 0
-      → Packs (worthAt A C (within 32768 s at)) (again64 v)
-  unfolding eval
-  pair-is at h three l z r mid o x y v ll lk zz small mm rr rk fx fy xx yy fv p oo =
-      let a = leaf-at (at + 2) l (omega arith) ll lk in
-      let b = leaf-at mid r (omega arith) rr rk in
-      let n : within 32768 s (at + 2) .next ≡ mid = a .1 ∙ (ap (λ (k : ℕ). at + 2 + k) (sym zz) ∙ sym mm) in
-      let t = within-bin 32768 s at (omega arith) (getD s at 0) refl (λ e. omega arith) (λ e. omega arith) (λ e. omega arith) in
-      rw (t, n, a .0, b .0, ← xx, ← yy, ← oo)
-      (record {
-        answer = toZ-ofZ fv ∙ rw (toZ-ofZ fx, toZ-ofZ fy) at p ∙ packed-worth (applyOp o x y);
-        range = worth-fits (applyOp o x y) (apply-fits o x y fx fy);
-      })
-
-pub ruleset pairs = (pair-is, packs-same)
 
 -- ---- the whole: a refusal puts the position back
 module _ (A : List ℕ) (C : List ℤ) (g : Got) (r : ℤ) (after : ℕ) (o : OnTheWay (worthAt A C g) (g .next) r after) (f : SFits w64 r) where

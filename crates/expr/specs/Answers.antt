@@ -5,10 +5,10 @@ use mathlib.Core.List.{List}
 use mathlib.Core.Bool.{Bool, true, false, cond}
 use lib.Dec.{eqb}
 use lib.IntN.{ℤ, pos, negsuc}
-use lib.ListN.{getD, take, drop}
-use Rattle.codes.specs.Codes.{word16}
-use Rattle.codes.specs.Numbers.{cellAt}
+use lib.ListN.{take, drop}
 use lib.Dec.{ltb}
+use lib.Signed.{ltZ, leZ}
+use Rattle.values.specs.Values.{isTrue, eqZ}
 use mir.Syntax.{w32}
 use mir.Val.{SFits}
 use Rattle.expr.specs.Tree.{Expr, depth, Valid, Arrays, Fault, byZero, badIndex, Worth, value, stop, eval, known}
@@ -68,13 +68,6 @@ worthAt arrays cells g = eval (arraysOf arrays) cells (g .tree)
 abbrev pub readAt : List ℕ → List ℤ → ℕ → Got → Worth
 readAt arrays cells a g = indexed (arraysOf arrays) cells a (worthAt arrays cells g)
 
--- how long a constant (0) or a scalar (1) is, and what it holds
-abbrev pub leafSize : ℕ → ℕ
-leafSize tag = cond (eqb tag 0) 5 3
-
-abbrev pub leafIn : List ℕ → List ℤ → ℕ → ℕ → ℤ
-leafIn s cells tag at = cond (eqb tag 0) (cellAt s (at + 1)) (getD cells (word16 s (at + 1)) (pos 0))
-
 -- the answer r for a worth w
 pub record Packs (w : Worth) (r : ℤ) : Type 0 where
   pub answer : r ≡ packedWorth w
@@ -91,6 +84,52 @@ pub record OnTheWay (w : Worth) (next : ℕ) (r : ℤ) (after : ℕ) : Type 0 wh
   pub answer : r ≡ packedWorth w
   pub range : InCell w
   pub place : after ≡ movedTo w after next
+
+-- ---- the quick ways to an answer
+-- the answer r is the value of what was read; the position is behind it, and not beyond `far`
+pub record Held (arrays : List ℕ) (cells : List ℤ) (g : Got) (far : ℕ) (r : ℤ) (after : ℕ) : Type 0 where
+  pub worth : worthAt arrays cells g ≡ value r
+  pub range : SFits w32 r
+  pub place : after ≡ g .next
+  pub near : after ≤ far
+
+-- the same, whatever the arrays are
+pub record Plain (cells : List ℤ) (g : Got) (far : ℕ) (r : ℤ) (after : ℕ) : Type 0 where
+  pub held : (arrays : List ℕ) → Held arrays cells g far r after
+
+-- an answer that is not above every value is such; another says nothing
+pub record Quick (arrays : List ℕ) (cells : List ℤ) (g : Got) (far : ℕ) (r : ℤ) (after : ℕ) : Type 0 where
+  pub held : leZ r (pos 2147483647) ≡ true → Held arrays cells g far r after
+
+pub record QuickPlain (cells : List ℤ) (g : Got) (far : ℕ) (r : ℤ) (after : ℕ) : Type 0 where
+  pub quick : (arrays : List ℕ) → Quick arrays cells g far r after
+
+-- what is not above every value is one
+pub record Narrow (v : ℤ) : Type 0 where
+  pub fits : leZ v (pos 2147483647) ≡ true → SFits w32 v
+
+-- the answer r where v was read first: that of the array w at v where the first byte says so, else v
+pub record Placed (first : ℕ) (w : Worth) (v r : ℤ) : Type 0 where
+  pub read : first ≡ 2 → leZ v (pos 2147483647) ≡ true → Packs w r
+  pub heavy : leZ v (pos 2147483647) ≡ false → r ≡ v
+  pub other : (first ≡ 2 → ⊥) → r ≡ v
+
+-- ---- `truth`: 0 false, 1 true, else the document's number of what stops it
+abbrev pub truthOf : Worth → ℕ
+truthOf (value v) = cond (isTrue v) 1 0
+truthOf (stop f) = faultNumber f
+
+-- some worth's number, and what it says as a condition
+pub record Packed (w : ℤ) : Type 0 where
+  pub worth : Worth
+  pub packs : Packs worth w
+
+pub record Verdict (w : ℤ) (r : ℕ) : Type 0 where
+  pub says : (x : Worth) → Packs x w → r ≡ truthOf x
+
+-- the comparisons that hold, a bit for each: 2^10, 2^13 and 2^14 where x is less; 2^12, 2^14 and 2^15 where they are equal; else 2^11, 2^13 and 2^15
+abbrev pub comparisons : ℤ → ℤ → ℕ
+comparisons x y = cond (ltZ x y) 25600 (cond (eqZ x y) 53248 43008)
 
 -- ---- `mentions`
 abbrev pub nameOf : Bool → ℕ → Name

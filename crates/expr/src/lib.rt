@@ -1,17 +1,19 @@
 // Prefix-coded expressions: where one ends, what it is worth, whether it mentions a name, whether its names are there.
 use codes::byte;
-use codes::long;
 use codes::short;
 ghost use mathlib.Core.Path.{_≡_};
-ghost use mathlib.Core.Bool.{_||_, _&&_};
+ghost use mathlib.Core.Bool.{cond, _||_, _&&_};
+ghost use lib.Dec.{eqb, ltb};
 ghost use Prim.Native.Nat.{_+_, _<_};
 ghost use lib.IntN.{pos};
 ghost use lib.ListN.{getD};
 ghost use Rattle.codes.specs.Codes.{word16};
-ghost use Rattle.expr.specs.Tree.{element};
+ghost use Rattle.codes.specs.Numbers.{word32, cellAt};
+ghost use Rattle.values.specs.Values.{applyOp};
+ghost use Rattle.expr.specs.Tree.{worthOf, element};
 ghost use Rattle.expr.specs.Agreement.{isScalar, isArray};
 ghost use Rattle.expr.specs.Bytes.{parse, whole, within};
-ghost use Rattle.expr.specs.Answers.{endOf, Packs, arraysOf, worthAt, readAt, leafSize, leafIn, WorthSays, OnTheWay, nameOf, seenOf, knownOf};
+ghost use Rattle.expr.specs.Answers.{endOf, Packs, arraysOf, worthAt, readAt, Plain, QuickPlain, Quick, Narrow, Placed, WorthSays, OnTheWay, truthOf, Packed, Verdict, comparisons, nameOf, seenOf, knownOf};
 
 pub enum End {
     At(usize),
@@ -96,148 +98,357 @@ fn element_at(cells: &[i32; 2048], arrays: &[u16; 32], a: usize, index: i32) -> 
     BAD_INDEX
 }
 
-// What the expression at `*at` is worth; where that is a value, `*at` is moved behind it. From 32,768 on there is none: the
-// array is longer, so that what is read behind such a position is there without a test. A constant and a scalar, which nearly
-// every operand is, need no call.
-fn operand(bytes: &[u8; 32784], at: &mut usize, cells: &[i32; 2048], arrays: &[u16; 32]) -> i64
-    ensures { λ r. ⌜ OnTheWay (worthAt (now (arrays .entry)) (now (cells .entry)) (within 32768 (now (bytes .entry)) (now (at .entry)))) (within 32768 (now (bytes .entry)) (now (at .entry)) .next) r (now (at .exit)) ⌝ }
+// What a quick way answers where it is none for this expression: above every value, as a refusal is.
+const ANOTHER: i64 = 8589934592;
+
+// A byte as a number, with the bound that sums of it need.
+fn tiny(b: u8) -> usize
+    ensures { λ r. ⌜ (r ≡ b) × (r < 256) ⌝ }
 {
-    let p = *at;
-    if 32768 <= p {
-        return 0;
-    }
-    let tag = byte(bytes, p);
-    if tag == 0 {
-        *at = p + 5;
-        return long(bytes, p + 1) as i64;
-    }
-    if tag == 1 {
-        *at = p + 3;
-        return cell(cells, short(bytes, p + 1)) as i64;
-    }
-    compound(bytes, at, cells, arrays)
+    b as usize
 }
 
-// The same of an operator or an array read.
-fn compound(bytes: &[u8; 32784], at: &mut usize, cells: &[i32; 2048], arrays: &[u16; 32]) -> i64
-    requires { ⌜ 1 < getD (now bytes) (now at) 0 ⌝ }
-    ensures { λ r. ⌜ OnTheWay (worthAt (now (arrays .entry)) (now (cells .entry)) (within 32768 (now (bytes .entry)) (now (at .entry)))) (within 32768 (now (bytes .entry)) (now (at .entry)) .next) r (now (at .exit)) ⌝ }
+// The byte at i. An expression begins before 32,768 and the array is longer, so that no read here asks where it ends.
+fn one(bytes: &[u8; 32784], i: usize) -> usize
+    requires { ⌜ i < 32784 ⌝ }
+    ensures { λ r. ⌜ (r ≡ getD (now (bytes .entry)) i 0) × (r < 256) ⌝ }
 {
-    let p = *at;
-    // so that what follows is read without a test
+    tiny(bytes[i])
+}
+
+// The u16 at i.
+fn two(bytes: &[u8; 32784], i: usize) -> usize
+    requires { ⌜ i + 1 < 32784 ⌝ }
+    ensures { λ r. ⌜ (r ≡ word16 (now (bytes .entry)) i) × (r < 65536) ⌝ }
+{
+    tiny(bytes[i]) + 256 * tiny(bytes[i + 1])
+}
+
+// The 32 bits at i, the low byte first.
+fn word(bytes: &[u8; 32784], i: usize) -> usize
+    requires { ⌜ i + 3 < 32784 ⌝ }
+    ensures { λ r. ⌜ (r ≡ word32 (now (bytes .entry)) i) × (r < 4294967296) × (getD (now (bytes .entry)) i 0 < 256) ⌝ }
+{
+    tiny(bytes[i])
+        + 256 * tiny(bytes[i + 1])
+        + 65536 * tiny(bytes[i + 2])
+        + 16777216 * tiny(bytes[i + 3])
+}
+
+// The i32 at i.
+fn four(bytes: &[u8; 32784], i: usize) -> i32
+    requires { ⌜ i + 3 < 32784 ⌝ }
+    ensures { λ r. ⌜ r ≡ cellAt (now (bytes .entry)) i ⌝ }
+{
+    values::from_bits(word(bytes, i) as u32)
+}
+
+// The scalar whose number stands at i.
+fn scalar(bytes: &[u8; 32784], i: usize, cells: &[i32; 2048]) -> i32
+    requires { ⌜ i + 1 < 32784 ⌝ }
+    ensures { λ r. ⌜ r ≡ getD (now (cells .entry)) (word16 (now (bytes .entry)) i) (pos 0) ⌝ }
+{
+    cell(cells, two(bytes, i))
+}
+
+// What the constant or scalar at p holds; `*next` is behind it.
+fn leaf(bytes: &[u8; 32784], p: usize, tag: usize, next: &mut usize, cells: &[i32; 2048]) -> i32
+    requires { ⌜ (p < 32768) × (tag ≡ getD (now bytes) p 0) × (tag < 2) ⌝ }
+    ensures { λ r. ⌜ Plain (now (cells .entry)) (within 32768 (now (bytes .entry)) p) (p + 5) r (now (next .exit)) ⌝ }
+{
+    if tag == 1 {
+        *next = p + 3;
+        return scalar(bytes, p + 1, cells);
+    }
+    *next = p + 5;
+    four(bytes, p + 1)
+}
+
+// A scalar and a constant or scalar under an operator, as most indices are that are neither; else `ANOTHER`.
+fn pair(bytes: &[u8; 32784], p: usize, next: &mut usize, cells: &[i32; 2048]) -> i64
+    requires { ⌜ p < 32752 ⌝ }
+    ensures { λ r. ⌜ QuickPlain (now (cells .entry)) (within 32768 (now (bytes .entry)) p) (p + 10) r (now (next .exit)) ⌝ }
+{
+    if one(bytes, p) == 3 {
+        if one(bytes, p + 2) == 1 {
+            let r = one(bytes, p + 5);
+            if r < 2 {
+                let y = leaf(bytes, p + 5, r, next, cells);
+                return values::simple(one(bytes, p + 1) as u8, scalar(bytes, p + 3, cells), y);
+            }
+        }
+    }
+    ANOTHER
+}
+
+// Where the index of an array read begins, or what is no array read.
+fn inner(p: usize, first: usize) -> usize
+    requires { ⌜ p < 32768 ⌝ }
+    ensures { λ r. ⌜ (r ≡ cond (eqb first 2) (p + 3) p) × (r < p + 4) ⌝ }
+{
+    if first == 2 { p + 3 } else { p }
+}
+
+// What v is where it is an array read's index, or v itself.
+fn placed(
+    bytes: &[u8; 32784],
+    p: usize,
+    first: usize,
+    v: i64,
+    cells: &[i32; 2048],
+    arrays: &[u16; 32],
+) -> i64
+    requires { ⌜ (p < 32768) × Narrow v ⌝ }
+    ensures { λ r. ⌜ Placed first (element (arraysOf (now (arrays .entry))) (now (cells .entry)) (word16 (now (bytes .entry)) (p + 1)) v) v r ⌝ }
+{
+    if first == 2 {
+        if v <= MOST {
+            return element_at(cells, arrays, two(bytes, p + 1), v as i32);
+        }
+    }
+    v
+}
+
+// The left side of an operator: a constant, a scalar, a `pair`, or an array read at one of these; else above every value.
+fn left(
+    bytes: &[u8; 32784],
+    p: usize,
+    next: &mut usize,
+    cells: &[i32; 2048],
+    arrays: &[u16; 32],
+) -> i64
+    requires { ⌜ p < 32740 ⌝ }
+    ensures { λ r. ⌜ Quick (now (arrays .entry)) (now (cells .entry)) (within 32768 (now (bytes .entry)) p) (p + 13) r (now (next .exit)) ⌝ }
+{
+    let first = one(bytes, p);
+    let q = inner(p, first);
+    let tag = one(bytes, q);
+    if tag < 2 {
+        let x = leaf(bytes, q, tag, next, cells) as i64;
+        return placed(bytes, p, first, x, cells, arrays);
+    }
+    let v = pair(bytes, q, next, cells);
+    placed(bytes, p, first, v, cells, arrays)
+}
+
+// What the expression at p is worth; where that is a value, `*next` is behind it. From 32,768 on there is none.
+// A constant and a scalar, which nearly every operand is, need no call.
+// The five that follow call each other. Where n bytes are left before 32,768, what falls at every call is 5n + 4 for `operand`,
+// 5n + 3 for `value`, 5n + 2 for `operated`, 5n + 1 for `deep` and 5n for `read_at`.
+fn operand(
+    bytes: &[u8; 32784],
+    p: usize,
+    next: &mut usize,
+    cells: &[i32; 2048],
+    arrays: &[u16; 32],
+) -> i64
+    ensures { λ r. ⌜ OnTheWay (worthAt (now (arrays .entry)) (now (cells .entry)) (within 32768 (now (bytes .entry)) p)) (within 32768 (now (bytes .entry)) p .next) r (now (next .exit)) ⌝ }
+{
     if 32768 <= p {
+        *next = p;
         return 0;
     }
-    if byte(bytes, p) == 2 {
-        return read_at(bytes, at, cells, arrays);
+    let tag = one(bytes, p);
+    if tag == 0 {
+        *next = p + 5;
+        return four(bytes, p + 1) as i64;
     }
-    let operator = byte(bytes, p + 1) as u8;
-    *at = p + 2;
-    let l = operand(bytes, at, cells, arrays);
+    if tag == 1 {
+        *next = p + 3;
+        return scalar(bytes, p + 1, cells) as i64;
+    }
+    value(bytes, p, next, cells, arrays)
+}
+
+// The same of an operator or an array read: first the quick ways, all of whose bytes one test of the position allows.
+fn value(
+    bytes: &[u8; 32784],
+    p: usize,
+    next: &mut usize,
+    cells: &[i32; 2048],
+    arrays: &[u16; 32],
+) -> i64
+    requires { ⌜ 1 < getD (now bytes) p 0 ⌝ }
+    ensures { λ r. ⌜ OnTheWay (worthAt (now (arrays .entry)) (now (cells .entry)) (within 32768 (now (bytes .entry)) p)) (within 32768 (now (bytes .entry)) p .next) r (now (next .exit)) ⌝ }
+{
+    if p < 32736 {
+        if one(bytes, p) != 2 {
+            return operated(bytes, p, next, cells, arrays);
+        }
+        let tag = one(bytes, p + 3);
+        if tag < 2 {
+            let x = leaf(bytes, p + 3, tag, next, cells);
+            return element_at(cells, arrays, two(bytes, p + 1), x);
+        }
+        let i = pair(bytes, p + 3, next, cells);
+        if i <= MOST {
+            return element_at(cells, arrays, two(bytes, p + 1), i as i32);
+        }
+    }
+    deep(bytes, p, next, cells, arrays)
+}
+
+// The same of an operator: the quick way is for a right side that is a constant or a scalar, and no division.
+fn operated(
+    bytes: &[u8; 32784],
+    p: usize,
+    next: &mut usize,
+    cells: &[i32; 2048],
+    arrays: &[u16; 32],
+) -> i64
+    requires { ⌜ (p < 32736) × (2 < getD (now bytes) p 0) ⌝ }
+    ensures { λ r. ⌜ OnTheWay (worthAt (now (arrays .entry)) (now (cells .entry)) (within 32768 (now (bytes .entry)) p)) (within 32768 (now (bytes .entry)) p .next) r (now (next .exit)) ⌝ }
+{
+    let mut mid: usize = 0;
+    let l = left(bytes, p + 2, &mut mid, cells, arrays);
+    if l <= MOST {
+        let r = one(bytes, mid);
+        if r < 2 {
+            let y = leaf(bytes, mid, r, next, cells);
+            let v = values::plain(one(bytes, p + 1) as u8, l as i32, y);
+            if v <= MOST {
+                return v;
+            }
+        }
+    }
+    deep(bytes, p, next, cells, arrays)
+}
+
+// The same of any expression, with no quick way.
+fn deep(
+    bytes: &[u8; 32784],
+    p: usize,
+    next: &mut usize,
+    cells: &[i32; 2048],
+    arrays: &[u16; 32],
+) -> i64
+    ensures { λ r. ⌜ OnTheWay (worthAt (now (arrays .entry)) (now (cells .entry)) (within 32768 (now (bytes .entry)) p)) (within 32768 (now (bytes .entry)) p .next) r (now (next .exit)) ⌝ }
+{
+    if 32768 <= p {
+        *next = p;
+        return 0;
+    }
+    let tag = one(bytes, p);
+    if tag < 2 {
+        return leaf(bytes, p, tag, next, cells) as i64;
+    }
+    if tag == 2 {
+        return read_at(bytes, p, next, cells, arrays);
+    }
+    let mut mid: usize = 0;
+    let l = operand(bytes, p + 2, &mut mid, cells, arrays);
     if l > MOST {
         return l;
     }
-    let r = operand(bytes, at, cells, arrays);
+    let r = operand(bytes, mid, next, cells, arrays);
     if r > MOST {
         return r;
     }
-    values::apply(operator, l as i32, r as i32)
+    values::apply(one(bytes, p + 1) as u8, l as i32, r as i32)
 }
 
-// What the array read at `*at` is worth: its number stands behind the first byte, then its index.
-// The three call each other. Where n bytes are left before 32,768, what falls at every call is 3n + 1 for `operand`, 3n for
-// `compound` and 3n - 1 for `read_at`.
-fn read_at(bytes: &[u8; 32784], at: &mut usize, cells: &[i32; 2048], arrays: &[u16; 32]) -> i64
-    requires { ⌜ now at < 32768 ⌝ }
-    ensures { λ r. ⌜ OnTheWay (readAt (now (arrays .entry)) (now (cells .entry)) (word16 (now (bytes .entry)) (now (at .entry) + 1)) (within 32768 (now (bytes .entry)) (now (at .entry) + 3))) (within 32768 (now (bytes .entry)) (now (at .entry) + 3) .next) r (now (at .exit)) ⌝ }
+// What the array read at p is worth: its number stands behind the first byte, then its index.
+fn read_at(
+    bytes: &[u8; 32784],
+    p: usize,
+    next: &mut usize,
+    cells: &[i32; 2048],
+    arrays: &[u16; 32],
+) -> i64
+    requires { ⌜ p < 32768 ⌝ }
+    ensures { λ r. ⌜ OnTheWay (readAt (now (arrays .entry)) (now (cells .entry)) (word16 (now (bytes .entry)) (p + 1)) (within 32768 (now (bytes .entry)) (p + 3))) (within 32768 (now (bytes .entry)) (p + 3) .next) r (now (next .exit)) ⌝ }
 {
-    let p = *at;
-    let a = short(bytes, p + 1);
-    *at = p + 3;
-    let i = operand(bytes, at, cells, arrays);
+    let i = operand(bytes, p + 3, next, cells, arrays);
     if i > MOST {
         return i;
     }
-    element_at(cells, arrays, a, i as i32)
+    element_at(cells, arrays, two(bytes, p + 1), i as i32)
 }
 
 // What the expression at `at` is worth.
-fn worth_at(bytes: &[u8; 32784], at: usize, cells: &[i32; 2048], arrays: &[u16; 32]) -> i64
-    ensures { λ r. ⌜ Packs (worthAt (now (arrays .entry)) (now (cells .entry)) (within 32768 (now (bytes .entry)) at)) r ⌝ }
-{
-    let mut p = at;
-    operand(bytes, &mut p, cells, arrays)
-}
-
-// The same of an operator or an array read.
-fn compound_at(bytes: &[u8; 32784], at: usize, cells: &[i32; 2048], arrays: &[u16; 32]) -> i64
-    requires { ⌜ 1 < getD (now bytes) at 0 ⌝ }
-    ensures { λ r. ⌜ Packs (worthAt (now (arrays .entry)) (now (cells .entry)) (within 32768 (now (bytes .entry)) at)) r ⌝ }
-{
-    let mut p = at;
-    compound(bytes, &mut p, cells, arrays)
-}
-
-// How long a constant or a scalar is.
-fn leaf_size(tag: usize) -> usize
-    ensures { λ r. ⌜ (r ≡ leafSize tag) × (r < 6) ⌝ }
-{
-    if tag == 0 { 5 } else { 3 }
-}
-
-// What the constant or scalar at `at` holds.
-fn leaf(bytes: &[u8; 32784], at: usize, tag: usize, cells: &[i32; 2048]) -> i32
-    requires { ⌜ at < 32768 ⌝ }
-    ensures { λ r. ⌜ r ≡ leafIn (now (bytes .entry)) (now (cells .entry)) tag at ⌝ }
-{
-    if tag == 0 {
-        return long(bytes, at + 1);
-    }
-    cell(cells, short(bytes, at + 1))
-}
-
-// The operator at `at`. One on two constants or scalars, the most common condition, needs no call of the evaluator.
-fn pair(bytes: &[u8; 32784], at: usize, cells: &[i32; 2048], arrays: &[u16; 32]) -> i64
-    requires { ⌜ (at < 32752) × (getD (now bytes) at 0 ≡ 3) ⌝ }
-    ensures { λ r. ⌜ Packs (worthAt (now (arrays .entry)) (now (cells .entry)) (within 32768 (now (bytes .entry)) at)) r ⌝ }
-{
-    let l = byte(bytes, at + 2);
-    if 2 <= l {
-        return compound_at(bytes, at, cells, arrays);
-    }
-    let mid = at + 2 + leaf_size(l);
-    let r = byte(bytes, mid);
-    if 2 <= r {
-        return compound_at(bytes, at, cells, arrays);
-    }
-    let operator = byte(bytes, at + 1) as u8;
-    let x = leaf(bytes, at + 2, l, cells);
-    values::apply(operator, x, leaf(bytes, mid, r, cells))
-}
-
-// What the expression at `at` is worth. This way is for a condition, which is nearly always an operator.
 pub fn worth(bytes: &[u8; 32784], at: usize, cells: &[i32; 2048], arrays: &[u16; 32]) -> i64
     ensures { λ r. ⌜ Packs (worthAt (now (arrays .entry)) (now (cells .entry)) (within 32768 (now (bytes .entry)) at)) r ⌝ }
 {
-    if at < 32752 {
-        if byte(bytes, at) == 3 {
-            return pair(bytes, at, cells, arrays);
-        }
-    }
-    worth_at(bytes, at, cells, arrays)
+    let mut next: usize = 0;
+    operand(bytes, at, &mut next, cells, arrays)
 }
 
-// The same. This way is for what a SET adds and for its index, nearly always a constant or a scalar: `*at` is moved behind it,
-// or stays where it is refused.
+// The same, of what a SET adds and of its index: `*at` is moved behind it, or stays where it is refused.
 pub fn amount(bytes: &[u8; 32784], at: &mut usize, cells: &[i32; 2048], arrays: &[u16; 32]) -> i64
     ensures { λ r. ⌜ WorthSays (now (arrays .entry)) (now (cells .entry)) (now (at .entry)) (within 32768 (now (bytes .entry)) (now (at .entry))) r (now (at .exit)) ⌝ }
 {
     let start = *at;
-    let r = operand(bytes, at, cells, arrays);
+    let r = operand(bytes, start, at, cells, arrays);
     if r > MOST {
         *at = start;
     }
     r
+}
+
+// What a packed worth says as a condition.
+fn verdict(w: i64) -> u8
+    requires { ⌜ Packed w ⌝ }
+    ensures { λ r. ⌜ Verdict w r ⌝ }
+{
+    if w > MOST {
+        return (w - 4294967296) as u8;
+    }
+    (w != 0) as u8
+}
+
+// Which comparisons hold of l and r: the bits 10 to 15 are the operators `< > = != <= >=`.
+fn holds(l: i32, r: i32) -> usize
+    ensures { λ m. ⌜ m ≡ comparisons l r ⌝ }
+{
+    if l < r {
+        return 25600;
+    }
+    if l == r { 53248 } else { 43008 }
+}
+
+// Whether the comparison o holds: its bit, so that no jump goes by the operator.
+fn compared(o: usize, l: i32, r: i32) -> u8
+    requires { ⌜ (9 < o) × (o < 16) ⌝ }
+    ensures { λ t. ⌜ t ≡ truthOf (worthOf (applyOp o l r)) ⌝ }
+{
+    ((holds(l, r) >> o) % 2) as u8
+}
+
+fn comparison(o: usize) -> bool
+    ensures { λ r. ⌜ r ≡ (ltb 9 o && ltb o 16) ⌝ }
+{
+    if 9 < o { o < 16 } else { false }
+}
+
+// The condition of an operator at `at`: most compare a scalar with a constant, whose first six bytes two tests tell.
+fn quick(bytes: &[u8; 32784], at: usize, cells: &[i32; 2048], arrays: &[u16; 32]) -> u8
+    requires { ⌜ (at < 32736) × (getD (now bytes) at 0 ≡ 3) ⌝ }
+    ensures { λ r. ⌜ r ≡ truthOf (worthAt (now (arrays .entry)) (now (cells .entry)) (within 32768 (now (bytes .entry)) at)) ⌝ }
+{
+    let x = word(bytes, at + 2);
+    if x < 16777216 {
+        if x % 256 == 1 {
+            let o = one(bytes, at + 1);
+            if comparison(o) {
+                return compared(o, cell(cells, x / 256), four(bytes, at + 6));
+            }
+        }
+    }
+    let mut next: usize = 0;
+    verdict(value(bytes, at, &mut next, cells, arrays))
+}
+
+// What the condition at `at` says: 0 false, 1 true, else the document's number of what stops it.
+pub fn truth(bytes: &[u8; 32784], at: usize, cells: &[i32; 2048], arrays: &[u16; 32]) -> u8
+    ensures { λ r. ⌜ r ≡ truthOf (worthAt (now (arrays .entry)) (now (cells .entry)) (within 32768 (now (bytes .entry)) at)) ⌝ }
+{
+    if at < 32736 {
+        if one(bytes, at) == 3 {
+            return quick(bytes, at, cells, arrays);
+        }
+    }
+    let mut next: usize = 0;
+    verdict(deep(bytes, at, &mut next, cells, arrays))
 }
 
 fn either(a: bool, b: bool) -> bool

@@ -60,9 +60,6 @@ in32 z h = record { sfits = h }
 pub back32 : {z y : ℤ} → mag z < 2 ^ 31 → z ≡ y → toZ w32 (ofZ w32 z) ≡ y
 back32 {z} h e = toZ-ofZ (in32 z h) ∙ e
 
-pub back64 : {z y : ℤ} → mag z < 2 ^ 63 → z ≡ y → toZ w64 (ofZ w64 z) ≡ y
-back64 h e = toZ-ofZ {w = w64} (record { sfits = h }) ∙ e
-
 pub wide-back : {z y : ℤ} → mag z < 2 ^ 31 → z ≡ y → toZ w64 (ofZ w64 (toZ w32 (ofZ w32 z))) ≡ y
 wide-back {z} h e = wide-is (in32 z h) ∙ e
 

@@ -1,6 +1,8 @@
 -- What contracts and proofs say besides Values: the low bits, and the answer as one number. Nothing here has to be believed:
 -- proofs/Laws `packed-only` tells the answer from its number.
 use Prim.Native.Nat.{ℕ, _+_, _^_}
+use mathlib.Core.Bool.{Bool, true, false, _||_}
+use lib.Dec.{eqb, ltb}
 use lib.IntN.{ℤ, pos}
 use mir.Syntax.{w32}
 use mir.Val.{SFits}
@@ -14,6 +16,18 @@ low32 z = modBy z (2 ^ 32)
 abbrev pub packed : Value → ℤ
 packed (is v) = v
 packed zeroDivisor = pos (2 ^ 32 + 32)
+
+-- The operators `/ %`, and those that give what their two numbers make: `+ - ^ * & |`.
+abbrev pub divides : ℕ → Bool
+divides op = eqb op 4 || eqb op 5
+
+abbrev pub counts : ℕ → Bool
+counts op = ltb op 4 || (eqb op 6 || eqb op 7)
+
+-- The answer of a function for some operators only: 2^33, which packs nothing, for another.
+abbrev pub only : Bool → Value → ℤ
+only true v = packed v
+only false v = pos (2 ^ 33)
 
 -- The value is an i32; a zero divisor holds none.
 abbrev pub InRange : Value → Type 0

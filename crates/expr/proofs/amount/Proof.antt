@@ -5,4 +5,9 @@ use Rattle.expr.proofs.amount.Statement.{statement}
 use Rattle.expr.proofs.amount.Tie as tie
 
 pub amount-spec : {M : Type 1} → statement M
-amount-spec = tie.close (tie.spec (λ c κs. search needs) (λ c. search worths) (λ c. search worths))
+amount-spec =
+    tie.close
+    (tie.spec
+    (λ c κs. search needs)
+    (λ c. search worths)
+    (λ c. search worths))

@@ -1,6 +1,6 @@
--- `expr::leaf` meets its contract: the cases of `Values`. Assumes nothing.
+-- `expr::leaf` meets its contract: the cases of `Quickly`. Assumes nothing.
 use borrow.Author.Needs.{needs}
-use Rattle.expr.proofs.Values.{leaves}
+use Rattle.expr.proofs.Quickly.{leaves}
 use Rattle.expr.proofs.leaf.Statement.{statement}
 use Rattle.expr.proofs.leaf.Tie as tie
 
@@ -9,9 +9,10 @@ leaf-spec =
     tie.close
     (tie.spec
     (λ c. search needs)
+    (λ c. search needs)
     (λ c κs. search needs)
     (λ c. search leaves)
     (λ c. search needs)
-    (λ c κs. search needs)
+    (λ c. search needs)
     (λ c κs. search needs)
     (λ c. search leaves))

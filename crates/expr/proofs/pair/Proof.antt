@@ -1,6 +1,6 @@
--- `expr::pair` meets its contract: the cases of `Values`. Assumes nothing.
+-- `expr::pair` meets its contract: the cases of `Quickly`. Assumes nothing.
 use borrow.Author.Needs.{needs}
-use Rattle.expr.proofs.Values.{pairs}
+use Rattle.expr.proofs.Quickly.{pairs}
 use Rattle.expr.proofs.pair.Statement.{statement}
 use Rattle.expr.proofs.pair.Tie as tie
 
@@ -8,21 +8,20 @@ pub pair-spec : {M : Type 1} → statement M
 pair-spec =
     tie.close
     (tie.spec
+    (λ c κs. search needs)
+    (λ c. search needs)
+    (λ c κs. search needs)
+    (λ c. search needs)
+    (λ c κs. search needs)
+    (λ c. search needs)
+    (λ c κs. search needs)
+    (λ c. search needs)
+    (λ c κs. search needs)
+    (λ c. search needs)
     (λ c. search needs)
     (λ c κs. search needs)
     (λ c κs. search needs)
     (λ c. search pairs)
-    (λ c. search needs)
-    (λ c κs. search needs)
-    (λ c. search needs)
-    (λ c κs. search needs)
-    (λ c κs. search needs)
     (λ c. search pairs)
-    (λ c. search needs)
-    (λ c κs. search needs)
-    (λ c. search needs)
-    (λ c. search needs)
-    (λ c κs. search needs)
-    (λ c κs. search needs)
-    (λ c κs. search needs)
+    (λ c. search pairs)
     (λ c. search pairs))
