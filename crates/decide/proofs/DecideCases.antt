@@ -2,33 +2,23 @@
 use mathlib.Core.Path.{_≡_, refl, sym, ap, _∙_}
 use mathlib.Core.List.{List}
 use mathlib.Core.Bool.{Bool, true, false, cond, Bool·beq as same}
-use Prim.Native.Nat.{ℕ, zero, suc, _+_, _-_, _*_, _/_, _%_, _≤_, _<_}
+use Prim.Native.Nat.{ℕ, _+_, _-_, _/_, _≤_, _<_}
 use native.Mathlib.Omega.{arith}
 use borrow.Author.Tests.{eq-eqb, ne-eqb, lt-ltb, le-ltb, le-leb, lt-leb, eqb-true, eqb-false, leb-true, leb-false, ltb-true}
 use lib.Dec.{eqb, leb, ltb}
-use lib.IntN.{ℤ, pos, negsuc}
 use lib.ListN.{getD, set}
 use lib.Seq.{set-getD}
-use lib.Signed.{ltZ}
-use mir.Syntax.{w32, w64}
-use mir.Val.{SFits, ofZ, toZ}
-use mir.Facts.{toZ-ofZ}
-use Rattle.expr.specs.Tree.{Fault, byZero, badIndex as outside, value, stop}
 use Rattle.expr.specs.Bytes.{within}
-use Rattle.expr.specs.Answers.{worthAt, Packs}
+use Rattle.expr.specs.Answers.{worthAt, truthOf}
 use Rattle.place.specs.Methods.{topAt}
-use Rattle.moves.specs.Stores.{Answer, ok, no, number, reasonOf, Store}
-use Rattle.decide.specs.Sets.{faultOf, Leaves, setEntry}
+use Rattle.moves.specs.Stores.{Answer, ok, no, number, Store}
+use Rattle.decide.specs.Sets.{Leaves, setEntry}
 use Rattle.ways.specs.Looks.{labelIn}
-use Rattle.decide.specs.Decide.{moreOf, fewerOf, slotOf, putIn, truthOf}
-use Rattle.decide.specs.Ways.{depthOf, callsIn, countIn, Sight, Doing, sight, byKind, byLabel, bare, actIn, yesIn, noIn, firstIn, secondIn, exprIn, headIn, told, written, Does, onTo, refusedIn, keptIn, pushedIn, poppedIn, changedIn, chosenIn, closedIn, againIn, openedIn, repeatedIn, enteredIn, backIn, returnedIn, loopedIn, testedIn, assignedIn, Sets, Ruled, afterSet, setCell, cellIn, entryIn, Rules, ruleIn}
+use Rattle.decide.specs.Decide.{moreOf, fewerOf, slotOf, putIn}
+use Rattle.decide.specs.Ways.{depthOf, callsIn, countIn, Sight, Doing, sight, byKind, byLabel, bare, actIn, yesIn, noIn, firstIn, secondIn, exprIn, headIn, told, written, Does, onTo, refusedIn, keptIn, pushedIn, poppedIn, changedIn, chosenIn, closedIn, againIn, openedIn, repeatedIn, enteredIn, backIn, returnedIn, loopedIn, testedIn, assignedIn, Sets, afterSet, setCell, cellIn, entryIn, Rules, ruleIn}
 use Rattle.decide.specs.declared.Spot.{Spot}
 use Rattle.decide.specs.declared.Move.{Move}
-use Rattle.place.proofs.Cases.{top-none, top-over, top-here}
-use Rattle.decide.proofs.SetCases.{is-stop, is-value}
-
-abbrev again64 : ℤ → ℤ
-again64 z = toZ w64 (ofZ w64 z)
+use Rattle.place.proofs.Cases.{top-here}
 
 -- ---- small functions
 more-yes : (n : ℕ) → n < 1104 → n + 1 ≡ moreOf n
@@ -71,38 +61,6 @@ pub pushed-small : (d r : ℕ) → r ≡ depthOf (callsIn d) (moreOf (countIn d)
 pushed-small d r e h = omega (arith, more-small (countIn d) (omega arith))
 
 pub ruleset depths = (depth-more, depth-full, depth-none, depth-fewer)
-
--- ---- `truth`
-zero-bits : (r : ℤ) → SFits w32 r → ofZ w64 r ≡ 0 → r ≡ pos 0
-zero-bits (pos n) f e = ap pos e
-zero-bits (negsuc n) f e = absurd (omega arith)
-
-true-bits : (r : ℤ) → (ofZ w64 r ≡ 0 → ⊥) → 1 ≡ truthOf (value r)
-true-bits (pos zero) h = absurd (h refl)
-true-bits (pos (suc n)) h = refl
-true-bits (negsuc n) h = refl
-
-fault-number : (g : Fault) → number (reasonOf g) ≡ truthOf (stop g)
-fault-number byZero = refl
-fault-number outside = refl
-
-module _ (r : ℤ) (fits : SFits w64 r) (f arr : List ℕ) (cs : List ℤ) (at : ℕ) (says : Packs (worthAt arr cs (within 32768 f at)) r) where
-  pub truth-stop : (n : ℕ) → ltZ (pos 2147483647) (again64 r) ≡ true → n ≡ faultOf (ofZ w64 (again64 r)) → n ≡ truthOf (worthAt arr cs (within 32768 f at))
-  truth-stop n t e =
-      let s = is-stop r fits (worthAt arr cs (within 32768 f at)) (says .answer) (says .range) t in
-      rw (s .1) (e ∙ ap (λ z. faultOf (ofZ w64 z)) (toZ-ofZ fits) ∙ s .2 ∙ fault-number (s .0))
-
-  pub truth-zero : ltZ (pos 2147483647) (again64 r) ≡ false → ofZ w64 r ≡ 0 → 0 ≡ truthOf (worthAt arr cs (within 32768 f at))
-  truth-zero t e =
-      let s = is-value r fits (worthAt arr cs (within 32768 f at)) (says .answer) (says .range) t in
-      rw (s .0, zero-bits r (s .1) e)
-
-  pub truth-one : ltZ (pos 2147483647) (again64 r) ≡ false → (ofZ w64 r ≡ 0 → ⊥) → 1 ≡ truthOf (worthAt arr cs (within 32768 f at))
-  truth-one t e =
-      let s = is-value r fits (worthAt arr cs (within 32768 f at)) (says .answer) (says .range) t in
-      rw (s .0) (true-bits r e)
-
-pub ruleset truths = (truth-stop, truth-zero, truth-one)
 
 -- ---- slots
 module _ (s : List ℕ) (i v : ℕ) where

@@ -8,12 +8,12 @@ use borrow.Author.Tests.{lt-ltb, eqb-true, eqb-false}
 use lib.Dec.{eqb, leb, ltb}
 use lib.ListN.{getD}
 use Rattle.expr.specs.Bytes.{within}
-use Rattle.expr.specs.Answers.{worthAt}
+use Rattle.expr.specs.Answers.{worthAt, truthOf}
 use Rattle.records.specs.Faults.{word}
 use Rattle.moves.specs.Stores.{Answer, ok, no, number, Store}
 use Rattle.ways.specs.Looks.{operatorAt, lookIn, alongOf, otherOf, gateOf, procAt, resumedOf, wayTo}
 use Rattle.decide.specs.Sets.{setTo, setEntry, setAt}
-use Rattle.decide.specs.Decide.{Seen, Moved, moreOf, moving, truthOf, backOf, refusedOf, pushedOf, poppedOf, changedOf, chosenOf, closedOf, openedOf, repeatedOf, enteredTo, enteredOf, returnedOf, testedOf, assignedOf, ruled as tabled, afterSet as afterSetOf, ruleOf}
+use Rattle.decide.specs.Decide.{Seen, Moved, moreOf, moving, backOf, refusedOf, pushedOf, poppedOf, changedOf, chosenOf, closedOf, openedOf, repeatedOf, enteredTo, enteredOf, returnedOf, testedOf, assignedOf, ruled as tabled, afterSet as afterSetOf, ruleOf}
 use Rattle.decide.specs.Ways.{Sight, Doing, actIn, yesIn, noIn, firstIn, secondIn, exprIn, headIn, refusedIn, chosenIn, closedIn, openedIn, repeatedIn, enteredIn, returnedIn, passedIn, loopedIn, testedIn, ruled, afterSet, setCell, cellIn, entryIn, ruleIn, sightOf, packedMove, packed}
 use Rattle.ways.specs.Map.{cellAct, actAt, onwardAt, gateAt, intoAt, firstAt, secondAt, exprAt, entryAt, Maps}
 use Rattle.ways.proofs.MapCases.{entry-0, entry-2, entry-4, entry-6, entry-8, entry-10, entry-12}

@@ -4,11 +4,11 @@ use mathlib.Core.List.{List}
 use Prim.Native.Nat.{ℕ, _+_, _≤_, _<_}
 use borrow.Author.Tests.{eq-eqb, ne-eqb, lt-ltb, le-leb, lt-leb}
 use Rattle.expr.specs.Bytes.{within}
-use Rattle.expr.specs.Answers.{worthAt}
+use Rattle.expr.specs.Answers.{worthAt, truthOf}
 use Rattle.moves.specs.Stores.{Answer, ok, no, Store}
 use Rattle.decide.specs.Sets.{Leaves, setAt}
 use Rattle.ways.specs.Looks.{lookIn, otherOf, alongOf, procAt}
-use Rattle.decide.specs.Decide.{Seen, Moved, behindOf, truthOf, keptOf, enteredOf, returnedOf, testedOf, assignedOf, afterSet, Rules, ruleOf}
+use Rattle.decide.specs.Decide.{Seen, Moved, behindOf, keptOf, enteredOf, returnedOf, testedOf, assignedOf, afterSet, Rules, ruleOf}
 
 module _ (f tab arr : List ℕ) (s : Seen) (σ : Store) (k at : ℕ) (kk : k ≡ lookIn tab (1024 + s .b)) (aa : at ≡ lookIn tab (s .b)) (m : Moved) (nb : s .b < 1024) where
   abbrev Says : Store → Type 0

@@ -6,9 +6,7 @@ use mathlib.Core.Path.{_≡_}
 use mathlib.Core.Bool.{Bool, false, cond}
 use lib.ListN.{set}
 use lib.Dec.{ltb, leb, eqb}
-use Rattle.values.specs.Values.{isTrue}
-use Rattle.expr.specs.Tree.{Worth, value, stop}
-use Rattle.expr.specs.Answers.{worthAt, faultNumber}
+use Rattle.expr.specs.Answers.{worthAt, truthOf}
 use Rattle.expr.specs.Bytes.{within}
 use Rattle.moves.specs.Stores.{Answer, ok, no, number, Store}
 use Rattle.ways.specs.Looks.{actOf, alongOf, gateOf, leftAt, lookIn, otherOf, procAt, resumedOf}
@@ -48,11 +46,6 @@ slotOf n = cond (eqb n 0) 1104 (n - 1)
 -- a slot written; a number that no slot has writes nothing
 unfoldable pub putIn : List ℕ → ℕ → ℕ → List ℕ
 putIn s i v = cond (ltb i 1104) (set s i v) s
-
--- 0 false, 1 true, else the number of what stops it
-abbrev pub truthOf : Worth → ℕ
-truthOf (value v) = cond (isTrue v) 1 0
-truthOf (stop f) = faultNumber f
 
 abbrev pub moving : ℕ → ℕ → ℕ → ℕ → ℕ → ℕ → ℕ → ℕ → ℕ → Moved
 moving reason d a b calls count slot kind label =

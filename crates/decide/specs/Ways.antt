@@ -6,13 +6,13 @@ use mathlib.Core.Path.{_≡_}
 use mathlib.Core.Bool.{Bool, false, cond, Bool·beq as same}
 use lib.ListN.{getD}
 use lib.Dec.{ltb, leb, eqb}
-use Rattle.expr.specs.Answers.{worthAt}
+use Rattle.expr.specs.Answers.{worthAt, truthOf}
 use Rattle.expr.specs.Bytes.{within}
 use Rattle.place.specs.Methods.{topAt}
 use Rattle.moves.specs.Stores.{Answer, ok, no, number, Store}
 use Rattle.ways.specs.Looks.{labelIn, wayTo}
 use Rattle.decide.specs.Sets.{setTo, setEntry}
-use Rattle.decide.specs.Decide.{Seen, Moved, Ruled as Tabled, moreOf, fewerOf, slotOf, putIn, truthOf}
+use Rattle.decide.specs.Decide.{Seen, Moved, Ruled as Tabled, moreOf, fewerOf, slotOf, putIn}
 use Rattle.decide.specs.declared.Spot.{Spot}
 use Rattle.decide.specs.declared.Move.{Move}
 

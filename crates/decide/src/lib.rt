@@ -1,17 +1,17 @@
 // What a step does, decided from the record, the innermost frame and the store; never from the whole place.
 // Every public function is total. File and store are arrays of fixed size: each is one pointer, and no length goes with it.
 // A way is a label and a direction in one number (the crate `ways`). By it a run looks up all that it needs.
-use crate::set::fault;
 use crate::set::set_cell;
 use crate::set::set_entry;
+use expr::truth;
 use place::top_of;
 use ways::label_of;
 ghost use mathlib.Core.Path.{_≡_};
 ghost use Prim.Native.Nat.{_+_, _<_, _≤_};
 ghost use lib.ListN.{getD};
-ghost use Rattle.expr.specs.Answers.{worthAt};
+ghost use Rattle.expr.specs.Answers.{worthAt, truthOf};
 ghost use Rattle.expr.specs.Bytes.{within};
-ghost use Rattle.decide.specs.Decide.{moreOf, fewerOf, slotOf, putIn, truthOf};
+ghost use Rattle.decide.specs.Decide.{moreOf, fewerOf, slotOf, putIn};
 ghost use Rattle.decide.specs.Ways.{depthOf, callsIn, countIn, bare, byKind, byLabel, sight, yesIn, noIn, secondIn, exprIn, told, Does, onTo, refusedIn, chosenIn, closedIn, againIn, openedIn, repeatedIn, enteredIn, backIn, returnedIn, loopedIn, testedIn, assignedIn, Sets, cellIn, entryIn, Rules, ruleIn};
 
 mod set;
@@ -121,20 +121,6 @@ fn target(map: &[u16; 14336], way: usize) -> usize
     ensures { λ r. ⌜ r ≡ secondIn (now (map .entry)) way ⌝ }
 {
     wide(entry(map, 8192, way))
-}
-
-// What the expression at `at` holds: 0 false, 1 true, else the document's number of what stops it.
-fn truth(bytes: &[u8; 32784], at: usize, arrays: &[u16; 32], cells: &[i32; 2048]) -> u8
-    ensures { λ r. ⌜ r ≡ truthOf (worthAt (now (arrays .entry)) (now (cells .entry)) (within 32768 (now (bytes .entry)) at)) ⌝ }
-{
-    let w = expr::worth(bytes, at, cells, arrays);
-    if w > 2147483647 {
-        return fault(w);
-    }
-    if w == 0 {
-        return 0;
-    }
-    1
 }
 
 impl Spot {
@@ -384,14 +370,14 @@ fn looped(
     ensures { λ r. ⌜ Does (loopedIn (sight s (now (kinds .entry)) (now (labels .entry))) act (truthOf (worthAt (now (arrays .entry)) (now (cells .entry)) (within 32768 (now (bytes .entry)) (exprIn (now (map .entry)) (s .way))))) (now (map .entry))) (now (kinds .entry)) (now (labels .entry)) r (now (kinds .exit)) (now (labels .exit)) ⌝ }
 {
     if act == 8 {
-        let v = truth(bytes, expression(map, s.way), arrays, cells);
+        let v = truth(bytes, expression(map, s.way), cells, arrays);
         if 2 <= v {
             return s.refused(v);
         }
         return s.opened(v, kinds, labels, map);
     }
     if act == 10 {
-        let v = truth(bytes, expression(map, s.way), arrays, cells);
+        let v = truth(bytes, expression(map, s.way), cells, arrays);
         if 2 <= v {
             return s.refused(v);
         }
@@ -415,14 +401,14 @@ fn tested(
     ensures { λ r. ⌜ Does (testedIn (sight s (now (kinds .entry)) (now (labels .entry))) act (truthOf (worthAt (now (arrays .entry)) (now (cells .entry)) (within 32768 (now (bytes .entry)) (exprIn (now (map .entry)) (s .way))))) (now (map .entry))) (now (kinds .entry)) (now (labels .entry)) r (now (kinds .exit)) (now (labels .exit)) ⌝ }
 {
     if act == 5 {
-        let v = truth(bytes, expression(map, s.way), arrays, cells);
+        let v = truth(bytes, expression(map, s.way), cells, arrays);
         if 2 <= v {
             return s.refused(v);
         }
         return s.chosen(v, kinds, labels, map);
     }
     if act == 7 {
-        let v = truth(bytes, expression(map, s.way), arrays, cells);
+        let v = truth(bytes, expression(map, s.way), cells, arrays);
         if 2 <= v {
             return s.refused(v);
         }

@@ -17,7 +17,7 @@ const MOST: i64 = 2147483647;
 const NOWHERE: usize = 131072;
 
 // The document's number of a refused evaluation.
-pub fn fault(w: i64) -> u8
+fn fault(w: i64) -> u8
     ensures { λ r. ⌜ r ≡ faultOf (ofZ w64 w) ⌝ }
 {
     if w == 4294967328 { 32 } else { 33 }

@@ -10,7 +10,7 @@ use borrow.Author.Tests.{eq-eqb, ne-eqb}
 use Rattle.values.specs.Values.{isTrue}
 use Rattle.expr.specs.Tree.{Expr, byZero, badIndex as outside, Worth, value, stop, eval}
 use Rattle.expr.specs.Bytes.{Got, parse, within}
-use Rattle.expr.specs.Answers.{arraysOf}
+use Rattle.expr.specs.Answers.{arraysOf, truthOf}
 use Rattle.place.specs.Places.{Frame}
 use Rattle.records.specs.Records.{if, fi, from, until, kind}
 use Rattle.order.specs.Trees.{Tree, recordsOf}
@@ -25,7 +25,7 @@ use Rattle.moves.proofs.Links.{at-is}
 use Rattle.moves.proofs.Accepted.{accepted-wf}
 use Rattle.table.proofs.Tabled.{Tabled, Part}
 use Rattle.ways.specs.Looks.{lookIn, alongOf}
-use Rattle.decide.specs.Decide.{Seen, Moved, truthOf, pushedOf, poppedOf, changedOf, headIn, closedOf, againOf, openedOf, testedOf, Ruled, ruled, Rules, ruleOf}
+use Rattle.decide.specs.Decide.{Seen, Moved, pushedOf, poppedOf, changedOf, headIn, closedOf, againOf, openedOf, testedOf, Ruled, ruled, Rules, ruleOf}
 use Rattle.decide.proofs.Rules.{rule-test}
 use Rattle.machine.proofs.Labels.{near, offset-is}
 use Rattle.machine.proofs.Landing.{Fate}
