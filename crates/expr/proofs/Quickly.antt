@@ -222,10 +222,6 @@ module _ (A : List ℕ) (C : List ℤ) (s : List ℕ) (p : ℕ) where
         let b = bin-held A C s p (omega arith) l y v mid (mid + 5) after (mid + 5) big (left-held .worth) (sym (left-held .place)) (d .held A) (rw (← oo) (w .0)) (w .1) (omega arith) in
         rw (toZ-ofZ fv) (record { answer = rw (b .worth); range = rw (b .worth) (w .1); place = rw (b .worth) (b .place) })
 
-pub ruleset quick-casts = (pair-cast)
-
-pub ruleset left-casts = (left-cast)
-
 pub ruleset values = (passed-on, value-leaf, value-pair)
 
 pub ruleset operateds = (passed-on, operated-is)

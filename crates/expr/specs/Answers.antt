@@ -127,7 +127,8 @@ pub record Packed (w : ℤ) : Type 0 where
 pub record Verdict (w : ℤ) (r : ℕ) : Type 0 where
   pub says : (x : Worth) → Packs x w → r ≡ truthOf x
 
--- the comparisons that hold, a bit for each: 2^10, 2^13 and 2^14 where x is less; 2^12, 2^14 and 2^15 where they are equal; else 2^11, 2^13 and 2^15
+-- the comparisons that hold, 2^10 to 2^15 for `< > = != <= >=`: `<`, `!=` and `<=` where x is less; `=`, `<=` and `>=` where the two are
+-- equal; else `>`, `!=` and `>=`
 abbrev pub comparisons : ℤ → ℤ → ℕ
 comparisons x y = cond (ltZ x y) 25600 (cond (eqZ x y) 53248 43008)
 

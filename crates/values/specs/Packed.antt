@@ -17,7 +17,7 @@ abbrev pub packed : Value → ℤ
 packed (is v) = v
 packed zeroDivisor = pos (2 ^ 32 + 32)
 
--- The operators `/ %`, and those that give what their two numbers make: `+ - ^ * & |`.
+-- The operators `/ %`; and `+ - ^ * & |`, which an index is made with.
 abbrev pub divides : ℕ → Bool
 divides op = eqb op 4 || eqb op 5
 

@@ -6,7 +6,7 @@ use native.Mathlib.Omega.{arith}
 use mir.Syntax.{w64}
 use mir.Val.{SFits}
 use Rattle.expr.proofs.Values.{deeps, reads, casts, operands, mid-after}
-use Rattle.expr.proofs.Quickly.{values, operateds, quick-casts, left-casts, mid-near}
+use Rattle.expr.proofs.Quickly.{values, operateds, pair-cast, left-cast, mid-near}
 use Prim.Native.Nat.{ℕ, _+_, _-_, _*_, _<_}
 use borrow.Fn.Kinds.{In}
 use borrow.Fn.PlainCycle.{Measures, is, falls, and}
@@ -135,7 +135,7 @@ pub +deep+operand+operated+read-at+value-spec : {M : Type 1} → statement M
     (λ c. search needs)
     (λ c κs. search needs)
     (λ c. search needs)
-    (λ c. search left-casts)
+    (λ c. search left-cast)
     (λ c κs. search needs)
     (λ c. search operateds)
     (λ c κs. search needs)
@@ -169,7 +169,7 @@ pub +deep+operand+operated+read-at+value-spec : {M : Type 1} → statement M
     (λ c κs. search needs)
     (λ c. search needs)
     (λ c κs. search needs)
-    (λ c. search quick-casts)
+    (λ c. search pair-cast)
     (λ c κs. search needs)
     (λ c. search values)
     (λ c κs. search needs)
