@@ -7,7 +7,6 @@ use Rattle.codes.specs.Codes.{AllBytes}
 use Rattle.expr.specs.Answers.{EndSays}
 use Rattle.expr.proofs.Format.{says}
 use Rattle.expr.proofs.expression_end.Reads as expression-end
-use Rattle.expr.proofs.worth.Reads as worth
 use Rattle.expr.proofs.amount.Reads as amount
 use Rattle.expr.proofs.truth.Reads as truth
 use Rattle.expr.proofs.mentions.Reads as mentions
@@ -26,9 +25,6 @@ module _ (κs : Lfts 1) where
 
   pub names-known-determined : (a : _) (r r′ : _) (s s′ : _) → names-known.Post κs a r s → names-known.Post κs a r′ s′ → r ≡ r′
   names-known-determined a r r′ s s′ p q = p ∙ sym q
-
-pub worth-determined : (κs : Lfts 3) (a : _) (r r′ : _) (s s′ : _) → worth.Post κs a r s → worth.Post κs a r′ s′ → r ≡ r′
-worth-determined κs a r r′ s s′ p q = p .answer ∙ sym (q .answer)
 
 pub truth-determined : (κs : Lfts 3) (a : _) (r r′ : _) (s s′ : _) → truth.Post κs a r s → truth.Post κs a r′ s′ → r ≡ r′
 truth-determined κs a r r′ s s′ p q = p ∙ sym q

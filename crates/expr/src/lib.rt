@@ -365,15 +365,8 @@ fn read_at(
     element_at(cells, arrays, two(bytes, p + 1), i as i32)
 }
 
-// What the expression at `at` is worth.
-pub fn worth(bytes: &[u8; 32784], at: usize, cells: &[i32; 2048], arrays: &[u16; 32]) -> i64
-    ensures { λ r. ⌜ Packs (worthAt (now (arrays .entry)) (now (cells .entry)) (within 32768 (now (bytes .entry)) at)) r ⌝ }
-{
-    let mut next: usize = 0;
-    operand(bytes, at, &mut next, cells, arrays)
-}
-
-// The same, of what a SET adds and of its index: `*at` is moved behind it, or stays where it is refused.
+// What the expression at `*at` is worth, for what a SET adds and for its index: `*at` is moved behind it, or stays where it is
+// refused.
 pub fn amount(bytes: &[u8; 32784], at: &mut usize, cells: &[i32; 2048], arrays: &[u16; 32]) -> i64
     ensures { λ r. ⌜ WorthSays (now (arrays .entry)) (now (cells .entry)) (now (at .entry)) (within 32768 (now (bytes .entry)) (now (at .entry))) r (now (at .exit)) ⌝ }
 {
