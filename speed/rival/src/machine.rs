@@ -2,7 +2,7 @@
 
 use crate::check::*;
 use crate::table::*;
-use crate::value::{cell, operand, reason, worth, MAX_CELLS};
+use crate::value::{cell, operand, worth, Store, Told, MAX_CELLS, REFUSED};
 
 pub const MAX_FRAMES: usize = 1104;
 const MAX_CALLS: usize = 64;
@@ -39,40 +39,37 @@ impl Place {
 }
 
 /// Steps made and the reason, 0 where all n were made. The place fits; the store's cells come first.
-pub fn run(
-    program: &Program,
-    place: &mut Place,
-    store: &mut [i32; MAX_CELLS],
-    n: u32,
-) -> (u32, u8) {
+pub fn run(program: &Program, place: &mut Place, store: &mut Store, n: u32) -> (u32, u8) {
+    let tables = &*program.tables;
     let is_call = |kind: &&u16| **kind == CALLED;
     let mut going = Going {
         calls: place.kinds[..place.count].iter().filter(is_call).count(),
         way: usize::from(place.b) + MAX_RECORDS * place.direction,
-        a: place.a,
+        a: usize::from(place.a),
         count: place.count,
         kinds: &mut place.kinds,
         labels: &mut place.labels,
     };
-    let mut steps = 0;
+    let mut left = n;
     let mut reason = 0;
-    while steps < n {
-        reason = going.step(program, store);
+    while left != 0 {
+        reason = going.step(tables, store);
         if reason != 0 {
             break;
         }
-        steps += 1;
+        left -= 1;
     }
     let Going { way, a, count, .. } = going;
     (place.direction, place.b) = (way / MAX_RECORDS, (way % MAX_RECORDS) as u16);
-    (place.a, place.count) = (a, count);
-    (steps, reason)
+    (place.a, place.count) = ((a % MAX_RECORDS) as u16, count);
+    (n - left, reason)
 }
 
-/// The place during a run: all but the frames stays in registers. The way is the label met and the direction in one number.
+/// The place during a run: all but the frames stays in registers. The way is the label met and the direction in one number,
+/// `a` the way before it (or its label: the direction of it is not asked).
 struct Going<'a> {
     way: usize,
-    a: u16,
+    a: usize,
     count: usize,
     calls: usize,
     kinds: &'a mut [u16; MAX_FRAMES],
@@ -80,11 +77,6 @@ struct Going<'a> {
 }
 
 impl Going<'_> {
-    #[inline(always)]
-    fn label(&self) -> u16 {
-        (self.way % MAX_RECORDS) as u16
-    }
-
     #[inline(always)]
     fn push(&mut self, kind: u16, label: u16) {
         self.kinds[self.count] = kind;
@@ -103,133 +95,148 @@ impl Going<'_> {
 
     #[inline(always)]
     fn go(&mut self, next: u16) -> u8 {
-        self.a = self.label();
+        self.a = self.way;
         self.way = usize::from(next);
         0
     }
 
     /// 0 where it arrived; a refused step changes nothing.
     #[inline(always)]
-    fn step(&mut self, program: &Program, store: &mut [i32; MAX_CELLS]) -> u8 {
-        let row = program.row(self.way);
-        match row[ACT] {
-            SET => {
-                let mut at = usize::from(row[EXPR]);
-                let refused = set(program, store, &mut at, row[FIRST], i64::from(row[SECOND]));
-                if refused != 0 {
-                    return refused;
+    fn step(&mut self, tables: &Tables, store: &mut Store) -> u8 {
+        let way = self.way & (WAYS - 1);
+        let ask = |column: usize| tables.ways[column][way];
+        match ask(ACT) & 15 {
+            SET_ADD => self.set(tables, store, way, |held, change| held.wrapping_add(change)),
+            SET_SUB => self.set(tables, store, way, |held, change| held.wrapping_sub(change)),
+            SET_XOR => self.set(tables, store, way, |held, change| held ^ change),
+            ENTRY_ADD => self.set_entry(tables, store, way, |held, change| held.wrapping_add(change)),
+            ENTRY_SUB => self.set_entry(tables, store, way, |held, change| held.wrapping_sub(change)),
+            ENTRY_XOR => self.set_entry(tables, store, way, |held, change| held ^ change),
+            GO_IN => {
+                if self.calls == MAX_CALLS {
+                    return 34;
                 }
-                self.go(row[YES])
+                self.calls += 1;
+                self.push(CALLED, (way % MAX_RECORDS) as u16);
+                (self.a, self.way) = (usize::from(ask(FIRST)), usize::from(ask(SECOND)));
+                0
             }
-            SET_ENTRY => {
-                let mut at = usize::from(row[EXPR]);
-                let target = cell(program, store, row[SECOND], &mut at);
-                if reason(target) != 0 {
-                    return reason(target);
+            OUT_DOWN => self.leave(tables, 0),
+            OUT_UP => self.leave(tables, MAX_RECORDS),
+            ON_IF => {
+                let (tested, next) = worth(tables, store, usize::from(ask(EXPR)));
+                if next == REFUSED {
+                    return tested as u8;
                 }
-                let refused = set(program, store, &mut at, row[FIRST], target);
-                if refused != 0 {
-                    return refused;
+                if tested != 0 {
+                    self.push(TRUE, ask(HEAD));
+                    self.go(ask(YES))
+                } else {
+                    self.push(FALSE, ask(HEAD));
+                    self.go(ask(NO))
                 }
-                self.go(row[YES])
             }
-            SKIP => self.go(row[YES]),
-            CALL => self.enter(row),
-            RETURN => self.leave(program),
-            _ => self.test(program, store, row),
-        }
-    }
-
-    #[inline(always)]
-    fn enter(&mut self, row: &Row) -> u8 {
-        if self.calls == MAX_CALLS {
-            return 34;
-        }
-        self.calls += 1;
-        self.push(CALLED, self.label());
-        (self.a, self.way) = (row[FIRST], usize::from(row[SECOND]));
-        0
-    }
-
-    #[inline(always)]
-    fn leave(&mut self, program: &Program) -> u8 {
-        if self.calls == 0 {
-            return 30;
-        }
-        self.calls -= 1;
-        self.a = self.pop();
-        let side = self.way & MAX_RECORDS;
-        self.way = usize::from(program.row(usize::from(self.a) | side)[YES]);
-        0
-    }
-
-    /// IF, FI, FROM and UNTIL, by what they do in this direction.
-    #[inline(always)]
-    fn test(&mut self, program: &Program, store: &[i32; MAX_CELLS], row: &Row) -> u8 {
-        let tested = worth(program, store, usize::from(row[EXPR]));
-        if reason(tested) != 0 {
-            return reason(tested);
-        }
-        let holds = tested != 0;
-        let top = self.count.wrapping_sub(1);
-        match row[ACT] {
-            IF if holds => {
-                self.push(TRUE, row[HEAD]);
-                self.go(row[YES])
-            }
-            IF => {
-                self.push(FALSE, row[HEAD]);
-                self.go(row[NO])
-            }
-            FI => {
-                if (self.kinds[top] == TRUE) != holds {
+            ON_FI => {
+                let (tested, next) = worth(tables, store, usize::from(ask(EXPR)));
+                if next == REFUSED {
+                    return tested as u8;
+                }
+                let top = self.count.wrapping_sub(1);
+                if (self.kinds[top] == TRUE) != (tested != 0) {
                     return 31;
                 }
                 self.pop();
-                self.go(row[YES])
+                self.go(ask(YES))
             }
-            FROM => {
-                let again = self.count > 0 && self.labels[top] == row[HEAD];
-                if holds == again {
+            ON_FROM => {
+                let (tested, next) = worth(tables, store, usize::from(ask(EXPR)));
+                if next == REFUSED {
+                    return tested as u8;
+                }
+                let top = self.count.wrapping_sub(1);
+                let again = self.count > 0 && self.labels[top] == ask(HEAD);
+                if (tested != 0) == again {
                     return 31;
                 }
                 if again {
                     self.kinds[top] = IN_DO;
                 } else {
-                    self.push(IN_DO, row[HEAD]);
+                    self.push(IN_DO, ask(HEAD));
                 }
-                self.go(row[YES])
+                self.go(ask(YES))
             }
-            _ if holds => {
-                self.pop();
-                self.go(row[YES])
+            ON_UNTIL => {
+                let (tested, next) = worth(tables, store, usize::from(ask(EXPR)));
+                if next == REFUSED {
+                    return tested as u8;
+                }
+                if tested != 0 {
+                    self.pop();
+                    self.go(ask(YES))
+                } else {
+                    self.kinds[self.count.wrapping_sub(1)] = IN_LOOP;
+                    self.go(ask(NO))
+                }
             }
-            _ => {
-                self.kinds[top] = IN_LOOP;
-                self.go(row[NO])
-            }
+            _ => self.go(ask(YES)),
         }
     }
-}
 
-#[inline(always)]
-fn set(
-    program: &Program,
-    store: &mut [i32; MAX_CELLS],
-    at: &mut usize,
-    operator: u16,
-    target: i64,
-) -> u8 {
-    let change = operand(program, store, at);
-    if reason(change) != 0 {
-        return reason(change);
+    #[inline(always)]
+    fn leave(&mut self, tables: &Tables, side: usize) -> u8 {
+        if self.calls == 0 {
+            return 30;
+        }
+        self.calls -= 1;
+        self.a = usize::from(self.pop());
+        self.way = usize::from(tables.ways[YES][self.a % MAX_RECORDS + side]);
+        0
     }
-    let change = change as i32;
-    let held = &mut store[target as usize & (MAX_CELLS - 1)];
-    *held = match operator {
-        0 => held.wrapping_add(change),
-        1 => held.wrapping_sub(change),
-        _ => *held ^ change,
-    };
-    0
+
+    #[inline(always)]
+    fn set(
+        &mut self,
+        tables: &Tables,
+        store: &mut Store,
+        way: usize,
+        by: impl Fn(i32, i32) -> i32,
+    ) -> u8 {
+        let change = operand(tables, store, usize::from(tables.ways[EXPR][way]));
+        self.change(tables, store, way, usize::from(tables.ways[SECOND][way]), change, by)
+    }
+
+    #[inline(always)]
+    fn set_entry(
+        &mut self,
+        tables: &Tables,
+        store: &mut Store,
+        way: usize,
+        by: impl Fn(i32, i32) -> i32,
+    ) -> u8 {
+        let array = usize::from(tables.ways[SECOND][way]);
+        let (target, next) = cell(tables, store, array, usize::from(tables.ways[EXPR][way]));
+        if next == REFUSED {
+            return target as u8;
+        }
+        let change = operand(tables, store, next);
+        self.change(tables, store, way, target as usize, change, by)
+    }
+
+    #[inline(always)]
+    fn change(
+        &mut self,
+        tables: &Tables,
+        store: &mut Store,
+        way: usize,
+        target: usize,
+        (change, next): Told,
+        by: impl Fn(i32, i32) -> i32,
+    ) -> u8 {
+        if next == REFUSED {
+            return change as u8;
+        }
+        let held = &mut store[target & (MAX_CELLS - 1)];
+        *held = by(*held, change);
+        self.go(tables.ways[YES][way])
+    }
 }

@@ -1,138 +1,142 @@
-//! Expressions, evaluated on the file's bytes: one i64 for a value or for the number that refuses it.
+//! Expressions, evaluated on the file's bytes: the value and where the expression ends, by value, so that both stay in registers.
 
 use crate::check::MAX_FILE;
-use crate::table::Program;
+use crate::table::Tables;
 
 /// A store has room for this many cells, so that no cell needs a test.
 pub const MAX_CELLS: usize = 2048;
 
-/// What lies beyond i32's range stands for the number that is this much below it.
-const REFUSED: i64 = 1 << 40;
+pub type Store = [i32; MAX_CELLS];
 
-/// 0 where there is a value.
+/// A value and the position after its expression; or the number that refuses it, and `REFUSED`.
+pub type Told = (i32, usize);
+
+/// No expression ends at the beginning of the file.
+pub const REFUSED: usize = 0;
+
 #[inline(always)]
-pub fn reason(value: i64) -> u8 {
-    match value >= REFUSED {
-        true => (value - REFUSED) as u8,
-        false => 0,
-    }
+fn constant(tables: &Tables, at: usize) -> i32 {
+    let file = &tables.file;
+    i32::from_le_bytes([file[at], file[at + 1], file[at + 2], file[at + 3]])
 }
 
+/// There are at most 64 scalars, so that the lower byte of its number tells one.
 #[inline(always)]
-fn number(program: &Program, at: usize) -> u16 {
-    u16::from_le_bytes([program.file[at], program.file[at + 1]])
-}
-
-#[inline(always)]
-fn constant(program: &Program, at: usize) -> i64 {
-    let file = &program.file;
-    let bytes = [file[at], file[at + 1], file[at + 2], file[at + 3]];
-    i64::from(i32::from_le_bytes(bytes))
-}
-
-#[inline(always)]
-fn held(store: &[i32; MAX_CELLS], cell: usize) -> i64 {
-    i64::from(store[cell & (MAX_CELLS - 1)])
+fn scalar(tables: &Tables, store: &Store, at: usize) -> i32 {
+    store[usize::from(tables.file[at])]
 }
 
 /// The same as `value`; a constant or a scalar needs no call.
 #[inline(always)]
-pub fn operand(program: &Program, store: &[i32; MAX_CELLS], at: &mut usize) -> i64 {
-    let here = *at & (MAX_FILE - 1);
-    match program.file[here] {
-        0 => {
-            *at = here + 5;
-            constant(program, here + 1)
-        }
-        1 => {
-            *at = here + 3;
-            held(store, usize::from(number(program, here + 1)))
-        }
-        _ => value(program, store, at),
+pub fn operand(tables: &Tables, store: &Store, at: usize) -> Told {
+    let here = at & (MAX_FILE - 1);
+    match tables.file[here] {
+        0 => (constant(tables, here + 1), here + 5),
+        1 => (scalar(tables, store, here + 1), here + 3),
+        _ => value(tables, store, here),
     }
 }
 
-/// The value of the expression at a position, which then stands after it; both sides always.
-pub fn value(program: &Program, store: &[i32; MAX_CELLS], at: &mut usize) -> i64 {
-    let here = *at & (MAX_FILE - 1);
-    match program.file[here] {
-        0 | 1 => operand(program, store, at),
-        2 => {
-            *at = here + 3;
-            let cell = cell(program, store, number(program, here + 1), at);
-            if reason(cell) != 0 {
-                return cell;
+/// An operator on two constants or scalars, or an array at one, needs no frame; all else goes on to `deep`.
+#[inline(never)]
+pub fn value(tables: &Tables, store: &Store, at: usize) -> Told {
+    let here = at & (MAX_FILE - 1);
+    match pair(tables, store, here) {
+        Some(told) => told,
+        None => deep(tables, store, here),
+    }
+}
+
+/// An operator on two constants or scalars.
+#[inline(always)]
+fn pair(tables: &Tables, store: &Store, here: usize) -> Option<Told> {
+    let here = here & (MAX_FILE - 1);
+    let file = &tables.file;
+    if file[here] != 3 {
+        return None;
+    }
+    let (left, right, next) = match file[here + 2] {
+        0 => {
+            let left = constant(tables, here + 3);
+            match file[here + 7] {
+                0 => (left, constant(tables, here + 8), here + 12),
+                1 => (left, scalar(tables, store, here + 8), here + 10),
+                _ => return None,
             }
-            held(store, cell as usize)
+        }
+        1 => {
+            let left = scalar(tables, store, here + 3);
+            match file[here + 5] {
+                0 => (left, constant(tables, here + 6), here + 10),
+                1 => (left, scalar(tables, store, here + 6), here + 8),
+                _ => return None,
+            }
+        }
+        _ => return None,
+    };
+    Some(apply(file[here + 1], left, right, next))
+}
+
+/// The value of any expression; both sides always.
+#[inline(never)]
+fn deep(tables: &Tables, store: &Store, at: usize) -> Told {
+    let here = at & (MAX_FILE - 1);
+    match tables.file[here] {
+        0 => (constant(tables, here + 1), here + 5),
+        1 => (scalar(tables, store, here + 1), here + 3),
+        2 => {
+            let (cell, next) = cell(tables, store, usize::from(tables.file[here + 1]), here + 3);
+            if next == REFUSED {
+                return (cell, REFUSED);
+            }
+            (store[cell as usize & (MAX_CELLS - 1)], next)
         }
         _ => {
-            *at = here + 2;
-            let left = operand(program, store, at);
-            if reason(left) != 0 {
-                return left;
+            let (left, next) = operand(tables, store, here + 2);
+            if next == REFUSED {
+                return (left, REFUSED);
             }
-            let right = operand(program, store, at);
-            if reason(right) != 0 {
-                return right;
+            let (right, next) = operand(tables, store, next);
+            if next == REFUSED {
+                return (right, REFUSED);
             }
-            apply(program.file[here + 1], left as i32, right as i32)
+            apply(tables.file[here + 1], left, right, next)
         }
     }
 }
 
 /// A condition: an operator on two constants or scalars needs no call.
 #[inline(always)]
-pub fn worth(program: &Program, store: &[i32; MAX_CELLS], at: usize) -> i64 {
-    let here = at & (MAX_FILE - 1);
-    let file = &program.file;
-    let mut at = here;
-    if here < MAX_FILE - 16 && file[here] == 3 && file[here + 2] < 2 {
-        let middle = here + 2 + leaf_size(file[here + 2]);
-        if file[middle] < 2 {
-            let left = leaf(program, store, here + 2);
-            let right = leaf(program, store, middle);
-            return apply(file[here + 1], left as i32, right as i32);
-        }
-    }
-    value(program, store, &mut at)
-}
-
-#[inline(always)]
-fn leaf_size(tag: u8) -> usize {
-    [5, 3][usize::from(tag & 1)]
-}
-
-#[inline(always)]
-fn leaf(program: &Program, store: &[i32; MAX_CELLS], at: usize) -> i64 {
-    match program.file[at] {
-        0 => constant(program, at + 1),
-        _ => held(store, usize::from(number(program, at + 1))),
+pub fn worth(tables: &Tables, store: &Store, at: usize) -> Told {
+    match pair(tables, store, at) {
+        Some(told) => told,
+        None => deep(tables, store, at),
     }
 }
 
 /// The cell of an array at the index that stands at the position, tested.
 #[inline(always)]
-pub fn cell(program: &Program, store: &[i32; MAX_CELLS], array: u16, at: &mut usize) -> i64 {
-    let index = operand(program, store, at);
-    if reason(index) != 0 {
-        return index;
+pub fn cell(tables: &Tables, store: &Store, array: usize, at: usize) -> Told {
+    let (index, next) = operand(tables, store, at);
+    if next == REFUSED {
+        return (index, REFUSED);
     }
-    let [first, length] = program.arrays[usize::from(array) & 15];
-    if (index as u64) < u64::from(length) {
-        i64::from(first) + index
+    let [first, length] = tables.arrays[array & 15];
+    if (index as u32) < u32::from(length) {
+        (i32::from(first) + index, next)
     } else {
-        REFUSED + 33
+        (33, REFUSED)
     }
 }
 
 #[inline(always)]
-fn apply(operator: u8, left: i32, right: i32) -> i64 {
-    let wrapped = match operator {
+fn apply(operator: u8, left: i32, right: i32, next: usize) -> Told {
+    let wrapped = match operator & 15 {
         0 => left.wrapping_add(right),
         1 => left.wrapping_sub(right),
         2 => left ^ right,
         3 => left.wrapping_mul(right),
-        4 | 5 if right == 0 => return REFUSED + 32,
+        4 | 5 if right == 0 => return (32, REFUSED),
         4 => quotient(left, right),
         5 => left.wrapping_sub(quotient(left, right).wrapping_mul(right)),
         6 => left & right,
@@ -146,10 +150,11 @@ fn apply(operator: u8, left: i32, right: i32) -> i64 {
         14 => i32::from(left <= right),
         _ => i32::from(left >= right),
     };
-    i64::from(wrapped)
+    (wrapped, next)
 }
 
 /// Rounded towards minus infinity; the divisor is not zero.
+#[inline(never)]
 fn quotient(left: i32, right: i32) -> i32 {
     let towards_zero = left.wrapping_div(right);
     let rest = left.wrapping_rem(right);
