@@ -2,7 +2,7 @@
 
 use crate::check::*;
 use crate::table::*;
-use crate::value::{cell, operand, worth, Store, Told, MAX_CELLS, REFUSED};
+use crate::value::{cell, operand, worth, Store, MAX_CELLS};
 
 pub const MAX_FRAMES: usize = 1104;
 const MAX_CALLS: usize = 64;
@@ -39,204 +39,169 @@ impl Place {
 }
 
 /// Steps made and the reason, 0 where all n were made. The place fits; the store's cells come first.
+///
+/// All but the frames stays in registers. The way is the label met and the direction in one number, `a` the way before it
+/// (or its label: the direction of it is not asked). Every act counts its step and goes on by itself, so that the next act is
+/// chosen at the end of each. A refused step changes nothing.
 pub fn run(program: &Program, place: &mut Place, store: &mut Store, n: u32) -> (u32, u8) {
+    if n == 0 {
+        return (0, 0);
+    }
     let tables = &*program.tables;
     let is_call = |kind: &&u16| **kind == CALLED;
-    let mut going = Going {
-        calls: place.kinds[..place.count].iter().filter(is_call).count(),
-        way: usize::from(place.b) + MAX_RECORDS * place.direction,
-        a: usize::from(place.a),
-        count: place.count,
-        kinds: &mut place.kinds,
-        labels: &mut place.labels,
-    };
+    let mut calls = place.kinds[..place.count].iter().filter(is_call).count();
+    let mut way = usize::from(place.b) + MAX_RECORDS * place.direction;
+    let mut a = usize::from(place.a);
+    let mut count = place.count;
+    let (kinds, labels) = (&mut place.kinds, &mut place.labels);
     let mut left = n;
-    let mut reason = 0;
-    while left != 0 {
-        reason = going.step(tables, store);
-        if reason != 0 {
-            break;
+    let reason = loop {
+        let here = way & (WAYS - 1);
+        macro_rules! ask {
+            ($column:expr) => {
+                tables.ways[$column][here]
+            };
         }
-        left -= 1;
-    }
-    let Going { way, a, count, .. } = going;
-    (place.direction, place.b) = (way / MAX_RECORDS, (way % MAX_RECORDS) as u16);
-    (place.a, place.count) = ((a % MAX_RECORDS) as u16, count);
-    (n - left, reason)
-}
-
-/// The place during a run: all but the frames stays in registers. The way is the label met and the direction in one number,
-/// `a` the way before it (or its label: the direction of it is not asked).
-struct Going<'a> {
-    way: usize,
-    a: usize,
-    count: usize,
-    calls: usize,
-    kinds: &'a mut [u16; MAX_FRAMES],
-    labels: &'a mut [u16; MAX_FRAMES],
-}
-
-impl Going<'_> {
-    #[inline(always)]
-    fn push(&mut self, kind: u16, label: u16) {
-        self.kinds[self.count] = kind;
-        self.labels[self.count] = label;
-        self.count += 1;
-    }
-
-    #[inline(always)]
-    fn pop(&mut self) -> u16 {
-        self.count -= 1;
-        let label = self.labels[self.count];
-        self.kinds[self.count] = 0;
-        self.labels[self.count] = 0;
-        label
-    }
-
-    #[inline(always)]
-    fn go(&mut self, next: u16) -> u8 {
-        self.a = self.way;
-        self.way = usize::from(next);
-        0
-    }
-
-    /// 0 where it arrived; a refused step changes nothing.
-    #[inline(always)]
-    fn step(&mut self, tables: &Tables, store: &mut Store) -> u8 {
-        let way = self.way & (WAYS - 1);
-        let ask = |column: usize| tables.ways[column][way];
-        match ask(ACT) & 15 {
-            SET_ADD => self.set(tables, store, way, |held, change| held.wrapping_add(change)),
-            SET_SUB => self.set(tables, store, way, |held, change| held.wrapping_sub(change)),
-            SET_XOR => self.set(tables, store, way, |held, change| held ^ change),
-            ENTRY_ADD => self.set_entry(tables, store, way, |held, change| held.wrapping_add(change)),
-            ENTRY_SUB => self.set_entry(tables, store, way, |held, change| held.wrapping_sub(change)),
-            ENTRY_XOR => self.set_entry(tables, store, way, |held, change| held ^ change),
+        macro_rules! expression {
+            () => {
+                usize::from(ask!(EXPR))
+            };
+        }
+        macro_rules! go {
+            ($from:expr, $to:expr) => {{
+                a = $from;
+                way = usize::from($to);
+                left -= 1;
+                if left == 0 {
+                    break 0;
+                }
+            }};
+        }
+        macro_rules! go_on {
+            ($column:expr) => {
+                go!(way, ask!($column))
+            };
+        }
+        macro_rules! answered {
+            ($answer:expr) => {
+                match $answer {
+                    Ok(told) => told,
+                    Err(number) => break number as u8,
+                }
+            };
+        }
+        macro_rules! push {
+            ($kind:expr, $label:expr) => {{
+                kinds[count] = $kind;
+                labels[count] = $label;
+                count += 1;
+            }};
+        }
+        macro_rules! pop {
+            () => {{
+                count -= 1;
+                let label = labels[count];
+                kinds[count] = 0;
+                labels[count] = 0;
+                label
+            }};
+        }
+        macro_rules! set {
+            ($by:expr) => {{
+                let (change, _) = answered!(operand(tables, store, expression!()));
+                let held = &mut store[usize::from(ask!(SECOND)) & (MAX_CELLS - 1)];
+                *held = $by(*held, change);
+                go_on!(YES)
+            }};
+        }
+        macro_rules! set_entry {
+            ($by:expr) => {{
+                let array = usize::from(ask!(SECOND));
+                let (cell, next) = answered!(cell(tables, store, array, expression!()));
+                let (change, _) = answered!(operand(tables, store, next));
+                let held = &mut store[cell & (MAX_CELLS - 1)];
+                *held = $by(*held, change);
+                go_on!(YES)
+            }};
+        }
+        macro_rules! leave {
+            ($side:expr) => {{
+                if calls == 0 {
+                    break 30;
+                }
+                calls -= 1;
+                let label = usize::from(pop!());
+                go!(label, tables.ways[YES][label % MAX_RECORDS + $side])
+            }};
+        }
+        match ask!(ACT) & 15 {
+            SET_ADD => set!(i32::wrapping_add),
+            SET_SUB => set!(i32::wrapping_sub),
+            SET_XOR => set!(|held, change| held ^ change),
+            ENTRY_ADD => set_entry!(i32::wrapping_add),
+            ENTRY_SUB => set_entry!(i32::wrapping_sub),
+            ENTRY_XOR => set_entry!(|held, change| held ^ change),
             GO_IN => {
-                if self.calls == MAX_CALLS {
-                    return 34;
+                if calls == MAX_CALLS {
+                    break 34;
                 }
-                self.calls += 1;
-                self.push(CALLED, (way % MAX_RECORDS) as u16);
-                (self.a, self.way) = (usize::from(ask(FIRST)), usize::from(ask(SECOND)));
-                0
+                calls += 1;
+                push!(CALLED, (way % MAX_RECORDS) as u16);
+                go!(usize::from(ask!(FIRST)), ask!(SECOND))
             }
-            OUT_DOWN => self.leave(tables, 0),
-            OUT_UP => self.leave(tables, MAX_RECORDS),
+            OUT_DOWN => leave!(0),
+            OUT_UP => leave!(MAX_RECORDS),
             ON_IF => {
-                let (tested, next) = worth(tables, store, usize::from(ask(EXPR)));
-                if next == REFUSED {
-                    return tested as u8;
-                }
-                if tested != 0 {
-                    self.push(TRUE, ask(HEAD));
-                    self.go(ask(YES))
+                if answered!(worth(tables, store, expression!())) {
+                    push!(TRUE, ask!(HEAD));
+                    go_on!(YES)
                 } else {
-                    self.push(FALSE, ask(HEAD));
-                    self.go(ask(NO))
+                    push!(FALSE, ask!(HEAD));
+                    go_on!(NO)
                 }
             }
             ON_FI => {
-                let (tested, next) = worth(tables, store, usize::from(ask(EXPR)));
-                if next == REFUSED {
-                    return tested as u8;
+                let holds = answered!(worth(tables, store, expression!()));
+                if (kinds[count.wrapping_sub(1)] == TRUE) != holds {
+                    break 31;
                 }
-                let top = self.count.wrapping_sub(1);
-                if (self.kinds[top] == TRUE) != (tested != 0) {
-                    return 31;
-                }
-                self.pop();
-                self.go(ask(YES))
+                pop!();
+                go_on!(YES)
             }
             ON_FROM => {
-                let (tested, next) = worth(tables, store, usize::from(ask(EXPR)));
-                if next == REFUSED {
-                    return tested as u8;
+                let holds = answered!(worth(tables, store, expression!()));
+                let top = count.wrapping_sub(1);
+                match labels.get(top) {
+                    Some(label) if *label == ask!(HEAD) => {
+                        if holds {
+                            break 31;
+                        }
+                        kinds[top] = IN_DO;
+                        go_on!(YES)
+                    }
+                    _ => {
+                        if !holds {
+                            break 31;
+                        }
+                        push!(IN_DO, ask!(HEAD));
+                        go_on!(YES)
+                    }
                 }
-                let top = self.count.wrapping_sub(1);
-                let again = self.count > 0 && self.labels[top] == ask(HEAD);
-                if (tested != 0) == again {
-                    return 31;
-                }
-                if again {
-                    self.kinds[top] = IN_DO;
-                } else {
-                    self.push(IN_DO, ask(HEAD));
-                }
-                self.go(ask(YES))
             }
             ON_UNTIL => {
-                let (tested, next) = worth(tables, store, usize::from(ask(EXPR)));
-                if next == REFUSED {
-                    return tested as u8;
-                }
-                if tested != 0 {
-                    self.pop();
-                    self.go(ask(YES))
+                if answered!(worth(tables, store, expression!())) {
+                    pop!();
+                    go_on!(YES)
                 } else {
-                    self.kinds[self.count.wrapping_sub(1)] = IN_LOOP;
-                    self.go(ask(NO))
+                    kinds[count.wrapping_sub(1)] = IN_LOOP;
+                    go_on!(NO)
                 }
             }
-            _ => self.go(ask(YES)),
+            GO_ON | 14 | 15 => go_on!(YES),
+            _ => break 1,
         }
-    }
-
-    #[inline(always)]
-    fn leave(&mut self, tables: &Tables, side: usize) -> u8 {
-        if self.calls == 0 {
-            return 30;
-        }
-        self.calls -= 1;
-        self.a = usize::from(self.pop());
-        self.way = usize::from(tables.ways[YES][self.a % MAX_RECORDS + side]);
-        0
-    }
-
-    #[inline(always)]
-    fn set(
-        &mut self,
-        tables: &Tables,
-        store: &mut Store,
-        way: usize,
-        by: impl Fn(i32, i32) -> i32,
-    ) -> u8 {
-        let change = operand(tables, store, usize::from(tables.ways[EXPR][way]));
-        self.change(tables, store, way, usize::from(tables.ways[SECOND][way]), change, by)
-    }
-
-    #[inline(always)]
-    fn set_entry(
-        &mut self,
-        tables: &Tables,
-        store: &mut Store,
-        way: usize,
-        by: impl Fn(i32, i32) -> i32,
-    ) -> u8 {
-        let array = usize::from(tables.ways[SECOND][way]);
-        let (target, next) = cell(tables, store, array, usize::from(tables.ways[EXPR][way]));
-        if next == REFUSED {
-            return target as u8;
-        }
-        let change = operand(tables, store, next);
-        self.change(tables, store, way, target as usize, change, by)
-    }
-
-    #[inline(always)]
-    fn change(
-        &mut self,
-        tables: &Tables,
-        store: &mut Store,
-        way: usize,
-        target: usize,
-        (change, next): Told,
-        by: impl Fn(i32, i32) -> i32,
-    ) -> u8 {
-        if next == REFUSED {
-            return change as u8;
-        }
-        let held = &mut store[target & (MAX_CELLS - 1)];
-        *held = by(*held, change);
-        self.go(tables.ways[YES][way])
-    }
+    };
+    (place.direction, place.b) = (way / MAX_RECORDS, (way % MAX_RECORDS) as u16);
+    (place.a, place.count) = ((a % MAX_RECORDS) as u16, count);
+    (n - left, reason)
 }

@@ -18,7 +18,7 @@ pub const MATE: usize = 5;
 pub type Row = [u16; 8];
 
 /// Room after the longest file, so that an operator and two constants can be read wherever one begins.
-pub const FILE_ROOM: usize = MAX_FILE + 16;
+pub const FILE_ROOM: usize = MAX_FILE + 32;
 
 /// Columns of the map, each by way: a label, and `MAX_RECORDS` more upwards. What the record does there.
 pub const ACT: usize = 0;
@@ -32,7 +32,8 @@ pub const SECOND: usize = 4;
 pub const EXPR: usize = 5;
 pub const HEAD: usize = 6;
 
-/// What `ACT` says; all else is to go on.
+/// What `ACT` says.
+pub const GO_ON: u16 = 0;
 pub const SET_ADD: u16 = 1;
 pub const SET_SUB: u16 = 2;
 pub const SET_XOR: u16 = 3;
@@ -55,11 +56,13 @@ pub struct Program {
     pub cells: usize,
 }
 
+/// The file comes first, so that the same address serves its bytes and the tables.
+#[repr(C)]
 pub struct Tables {
+    pub file: [u8; FILE_ROOM],
+    pub ways: Ways,
     /// First cell and length of each array.
     pub arrays: [[u16; 2]; 16],
-    pub ways: Ways,
-    pub file: [u8; FILE_ROOM],
 }
 
 impl Program {

@@ -2,17 +2,29 @@
 
 use crate::check::MAX_FILE;
 use crate::table::Tables;
+use std::hint::cold_path;
 
 /// A store has room for this many cells, so that no cell needs a test.
 pub const MAX_CELLS: usize = 2048;
 
 pub type Store = [i32; MAX_CELLS];
 
-/// A value and the position after its expression; or the number that refuses it, and `REFUSED`.
+/// A value and the position after its expression; or the number that refuses it, and `REFUSED`. What a call gives back.
 pub type Told = (i32, usize);
 
 /// No expression ends at the beginning of the file.
-pub const REFUSED: usize = 0;
+const REFUSED: usize = 0;
+
+/// The same, where it is inlined: a leaf is then never tested for a refusal.
+pub type Answer = Result<(i32, usize), i32>;
+
+#[inline(always)]
+fn answer((value, next): Told) -> Answer {
+    match next {
+        REFUSED => Err(value),
+        _ => Ok((value, next)),
+    }
+}
 
 #[inline(always)]
 fn constant(tables: &Tables, at: usize) -> i32 {
@@ -26,106 +38,181 @@ fn scalar(tables: &Tables, store: &Store, at: usize) -> i32 {
     store[usize::from(tables.file[at])]
 }
 
-/// The same as `value`; a constant or a scalar needs no call.
+/// A constant or a scalar; the position leaves room for it.
 #[inline(always)]
-pub fn operand(tables: &Tables, store: &Store, at: usize) -> Told {
-    let here = at & (MAX_FILE - 1);
-    match tables.file[here] {
-        0 => (constant(tables, here + 1), here + 5),
-        1 => (scalar(tables, store, here + 1), here + 3),
-        _ => value(tables, store, here),
+fn leaf(tables: &Tables, store: &Store, at: usize) -> Option<(i32, usize)> {
+    match tables.file[at] {
+        1 => Some((scalar(tables, store, at + 1), at + 3)),
+        0 => Some((constant(tables, at + 1), at + 5)),
+        _ => None,
     }
 }
 
-/// An operator on two constants or scalars, or an array at one, needs no frame; all else goes on to `deep`.
-#[inline(never)]
-pub fn value(tables: &Tables, store: &Store, at: usize) -> Told {
-    let here = at & (MAX_FILE - 1);
-    match pair(tables, store, here) {
-        Some(told) => told,
-        None => deep(tables, store, here),
-    }
-}
-
-/// An operator on two constants or scalars.
+/// An operator on two constants or scalars; the position leaves room for it.
 #[inline(always)]
-fn pair(tables: &Tables, store: &Store, here: usize) -> Option<Told> {
-    let here = here & (MAX_FILE - 1);
+fn pair(tables: &Tables, store: &Store, at: usize) -> Option<Told> {
     let file = &tables.file;
-    if file[here] != 3 {
+    if file[at] != 3 {
         return None;
     }
-    let (left, right, next) = match file[here + 2] {
-        0 => {
-            let left = constant(tables, here + 3);
-            match file[here + 7] {
-                0 => (left, constant(tables, here + 8), here + 12),
-                1 => (left, scalar(tables, store, here + 8), here + 10),
-                _ => return None,
-            }
-        }
+    let (left, right, next) = match file[at + 2] {
         1 => {
-            let left = scalar(tables, store, here + 3);
-            match file[here + 5] {
-                0 => (left, constant(tables, here + 6), here + 10),
-                1 => (left, scalar(tables, store, here + 6), here + 8),
-                _ => return None,
-            }
+            let left = scalar(tables, store, at + 3);
+            let (right, next) = leaf(tables, store, at + 5)?;
+            (left, right, next)
+        }
+        0 => {
+            let left = constant(tables, at + 3);
+            let (right, next) = leaf(tables, store, at + 7)?;
+            (left, right, next)
         }
         _ => return None,
     };
-    Some(apply(file[here + 1], left, right, next))
+    Some(apply(file[at + 1], left, right, next))
 }
 
-/// The value of any expression; both sides always.
-#[inline(never)]
-fn deep(tables: &Tables, store: &Store, at: usize) -> Told {
+/// The same as `value`; a constant or a scalar needs no call.
+#[inline(always)]
+pub fn operand(tables: &Tables, store: &Store, at: usize) -> Answer {
     let here = at & (MAX_FILE - 1);
-    match tables.file[here] {
-        0 => (constant(tables, here + 1), here + 5),
-        1 => (scalar(tables, store, here + 1), here + 3),
+    match leaf(tables, store, here) {
+        Some(told) => Ok(told),
+        None => {
+            cold_path();
+            answer(value(tables, store, here))
+        }
+    }
+}
+
+/// The value of an expression; both sides always. What needs no call of its own needs no frame here.
+#[inline(never)]
+pub fn value(tables: &Tables, store: &Store, at: usize) -> Told {
+    let here = at & (MAX_FILE - 1);
+    let file = &tables.file;
+    match file[here] {
+        3 => {
+            let (left, middle) = match leaf(tables, store, here + 2) {
+                Some(told) => told,
+                None => match pair(tables, store, here + 2) {
+                    Some((number, REFUSED)) => return (number, REFUSED),
+                    Some(told) => told,
+                    None => return left_first(tables, store, here),
+                },
+            };
+            right_then(tables, store, here, left, middle)
+        }
         2 => {
-            let (cell, next) = cell(tables, store, usize::from(tables.file[here + 1]), here + 3);
-            if next == REFUSED {
-                return (cell, REFUSED);
-            }
-            (store[cell as usize & (MAX_CELLS - 1)], next)
+            let (index, next) = match leaf(tables, store, here + 3) {
+                Some(told) => told,
+                None => match pair(tables, store, here + 3) {
+                    Some((number, REFUSED)) => return (number, REFUSED),
+                    Some(told) => told,
+                    None => return entry(tables, store, here),
+                },
+            };
+            held(tables, store, usize::from(file[here + 1]), index, next)
         }
-        _ => {
-            let (left, next) = operand(tables, store, here + 2);
-            if next == REFUSED {
-                return (left, REFUSED);
-            }
-            let (right, next) = operand(tables, store, next);
-            if next == REFUSED {
-                return (right, REFUSED);
-            }
-            apply(tables.file[here + 1], left, right, next)
-        }
+        1 => (scalar(tables, store, here + 1), here + 3),
+        _ => (constant(tables, here + 1), here + 5),
     }
 }
 
-/// A condition: an operator on two constants or scalars needs no call.
 #[inline(always)]
-pub fn worth(tables: &Tables, store: &Store, at: usize) -> Told {
-    match pair(tables, store, at) {
-        Some(told) => told,
-        None => deep(tables, store, at),
+fn right_then(tables: &Tables, store: &Store, here: usize, left: i32, middle: usize) -> Told {
+    let middle = middle & (MAX_FILE - 1);
+    match leaf(tables, store, middle) {
+        Some((right, next)) => apply(tables.file[here + 1], left, right, next),
+        None => right_last(tables, store, here, left, middle),
     }
 }
 
-/// The cell of an array at the index that stands at the position, tested.
-#[inline(always)]
-pub fn cell(tables: &Tables, store: &Store, array: usize, at: usize) -> Told {
-    let (index, next) = operand(tables, store, at);
+/// An operator whose left side needs a call.
+#[inline(never)]
+fn left_first(tables: &Tables, store: &Store, at: usize) -> Told {
+    let here = at & (MAX_FILE - 1);
+    let (left, middle) = value(tables, store, here + 2);
+    if middle == REFUSED {
+        return (left, REFUSED);
+    }
+    right_then(tables, store, here, left, middle)
+}
+
+/// An operator whose right side needs a call.
+#[inline(never)]
+fn right_last(tables: &Tables, store: &Store, at: usize, left: i32, middle: usize) -> Told {
+    let operator = tables.file[(at & (MAX_FILE - 1)) + 1];
+    let (right, next) = value(tables, store, middle);
+    if next == REFUSED {
+        return (right, REFUSED);
+    }
+    apply(operator, left, right, next)
+}
+
+/// An array's entry whose index needs a call.
+#[inline(never)]
+fn entry(tables: &Tables, store: &Store, at: usize) -> Told {
+    let here = at & (MAX_FILE - 1);
+    let (index, next) = value(tables, store, here + 3);
     if next == REFUSED {
         return (index, REFUSED);
     }
+    held(tables, store, usize::from(tables.file[here + 1]), index, next)
+}
+
+#[inline(always)]
+fn held(tables: &Tables, store: &Store, array: usize, index: i32, next: usize) -> Told {
+    match cell_at(tables, array, index) {
+        Some(cell) => (store[cell], next),
+        None => (33, REFUSED),
+    }
+}
+
+#[inline(always)]
+fn cell_at(tables: &Tables, array: usize, index: i32) -> Option<usize> {
     let [first, length] = tables.arrays[array & 15];
-    if (index as u32) < u32::from(length) {
-        (i32::from(first) + index, next)
-    } else {
-        (33, REFUSED)
+    let cell = (u32::from(first).wrapping_add(index as u32)) as usize & (MAX_CELLS - 1);
+    ((index as u32) < u32::from(length)).then_some(cell)
+}
+
+/// Whether a condition holds: an operator on two constants or scalars needs no call.
+#[inline(always)]
+pub fn worth(tables: &Tables, store: &Store, at: usize) -> Result<bool, i32> {
+    let here = at & (MAX_FILE - 1);
+    let file = &tables.file;
+    if file[here] == 3 && file[here + 2] == 1 && file[here + 1] >= 10 {
+        let left = scalar(tables, store, here + 3);
+        if let Some((right, _)) = leaf(tables, store, here + 5) {
+            return Ok(compared(file[here + 1], left, right));
+        }
+    }
+    cold_path();
+    match answer(value(tables, store, here)) {
+        Ok((value, _)) => Ok(value != 0),
+        Err(number) => Err(number),
+    }
+}
+
+/// For each operator that compares, a bit where it holds for less, equal and more.
+const HOLDS: [u8; 16] = [0, 0, 0, 0, 0, 0, 0, 0, 0, 0, 1, 4, 2, 5, 3, 6];
+
+#[inline(always)]
+fn compared(operator: u8, left: i32, right: i32) -> bool {
+    let order = left.cmp(&right) as i8 + 1;
+    HOLDS[usize::from(operator & 15)] >> order & 1 != 0
+}
+
+/// The cell of an array at the index that stands at the position, tested, and the position after it.
+#[inline(always)]
+pub fn cell(
+    tables: &Tables,
+    store: &Store,
+    array: usize,
+    at: usize,
+) -> Result<(usize, usize), i32> {
+    let (index, next) = operand(tables, store, at)?;
+    match cell_at(tables, array, index) {
+        Some(cell) => Ok((cell, next)),
+        None => Err(33),
     }
 }
 
@@ -136,9 +223,14 @@ fn apply(operator: u8, left: i32, right: i32, next: usize) -> Told {
         1 => left.wrapping_sub(right),
         2 => left ^ right,
         3 => left.wrapping_mul(right),
-        4 | 5 if right == 0 => return (32, REFUSED),
-        4 => quotient(left, right),
-        5 => left.wrapping_sub(quotient(left, right).wrapping_mul(right)),
+        4 => {
+            cold_path();
+            return divided(left, right, next);
+        }
+        5 => {
+            cold_path();
+            return rest(left, right, next);
+        }
         6 => left & right,
         7 => left | right,
         8 => i32::from(left != 0 && right != 0),
@@ -153,8 +245,24 @@ fn apply(operator: u8, left: i32, right: i32, next: usize) -> Told {
     (wrapped, next)
 }
 
-/// Rounded towards minus infinity; the divisor is not zero.
 #[inline(never)]
+fn divided(left: i32, right: i32, next: usize) -> Told {
+    match right {
+        0 => (32, REFUSED),
+        _ => (quotient(left, right), next),
+    }
+}
+
+#[inline(never)]
+fn rest(left: i32, right: i32, next: usize) -> Told {
+    match right {
+        0 => (32, REFUSED),
+        _ => (left.wrapping_sub(quotient(left, right).wrapping_mul(right)), next),
+    }
+}
+
+/// Rounded towards minus infinity; the divisor is not zero.
+#[inline(always)]
 fn quotient(left: i32, right: i32) -> i32 {
     let towards_zero = left.wrapping_div(right);
     let rest = left.wrapping_rem(right);
