@@ -44,9 +44,6 @@ impl Place {
 /// (or its label: the direction of it is not asked). Every act counts its step and goes on by itself, so that the next act is
 /// chosen at the end of each. A refused step changes nothing.
 pub fn run(program: &Program, place: &mut Place, store: &mut Store, n: u32) -> (u32, u8) {
-    if n == 0 {
-        return (0, 0);
-    }
     let tables = &*program.tables;
     let is_call = |kind: &&u16| **kind == CALLED;
     let mut calls = place.kinds[..place.count].iter().filter(is_call).count();
@@ -56,30 +53,28 @@ pub fn run(program: &Program, place: &mut Place, store: &mut Store, n: u32) -> (
     let (kinds, labels) = (&mut place.kinds, &mut place.labels);
     let mut left = n;
     let reason = loop {
-        let here = way & (WAYS - 1);
+        if left == 0 {
+            break 0;
+        }
+        if way >= WAYS {
+            break 1;
+        }
+        let yes = usize::from(tables.ways[YES][way]);
+        macro_rules! go {
+            ($from:expr, $to:expr) => {{
+                (a, way) = ($from, $to);
+                left -= 1;
+                continue;
+            }};
+        }
         macro_rules! ask {
             ($column:expr) => {
-                tables.ways[$column][here]
+                tables.ways[$column][way]
             };
         }
         macro_rules! expression {
             () => {
-                usize::from(ask!(EXPR))
-            };
-        }
-        macro_rules! go {
-            ($from:expr, $to:expr) => {{
-                a = $from;
-                way = usize::from($to);
-                left -= 1;
-                if left == 0 {
-                    break 0;
-                }
-            }};
-        }
-        macro_rules! go_on {
-            ($column:expr) => {
-                go!(way, ask!($column))
+                ask!(EXPR)
             };
         }
         macro_rules! answered {
@@ -109,19 +104,19 @@ pub fn run(program: &Program, place: &mut Place, store: &mut Store, n: u32) -> (
         macro_rules! set {
             ($by:expr) => {{
                 let (change, _) = answered!(operand(tables, store, expression!()));
-                let held = &mut store[usize::from(ask!(SECOND)) & (MAX_CELLS - 1)];
+                let held = &mut store[usize::from(ask!(SECOND) as u8)];
                 *held = $by(*held, change);
-                go_on!(YES)
+                go!(way, yes)
             }};
         }
         macro_rules! set_entry {
             ($by:expr) => {{
-                let array = usize::from(ask!(SECOND));
+                let array = ask!(SECOND) as u8;
                 let (cell, next) = answered!(cell(tables, store, array, expression!()));
-                let (change, _) = answered!(operand(tables, store, next));
+                let (change, _) = answered!(operand(tables, store, next as u16));
                 let held = &mut store[cell & (MAX_CELLS - 1)];
                 *held = $by(*held, change);
-                go_on!(YES)
+                go!(way, yes)
             }};
         }
         macro_rules! leave {
@@ -131,7 +126,7 @@ pub fn run(program: &Program, place: &mut Place, store: &mut Store, n: u32) -> (
                 }
                 calls -= 1;
                 let label = usize::from(pop!());
-                go!(label, tables.ways[YES][label % MAX_RECORDS + $side])
+                go!(label, usize::from(tables.ways[YES][label % MAX_RECORDS + $side]))
             }};
         }
         match ask!(ACT) & 15 {
@@ -147,17 +142,17 @@ pub fn run(program: &Program, place: &mut Place, store: &mut Store, n: u32) -> (
                 }
                 calls += 1;
                 push!(CALLED, (way % MAX_RECORDS) as u16);
-                go!(usize::from(ask!(FIRST)), ask!(SECOND))
+                go!(usize::from(ask!(FIRST)), usize::from(ask!(SECOND)))
             }
             OUT_DOWN => leave!(0),
             OUT_UP => leave!(MAX_RECORDS),
             ON_IF => {
                 if answered!(worth(tables, store, expression!())) {
                     push!(TRUE, ask!(HEAD));
-                    go_on!(YES)
+                    go!(way, yes)
                 } else {
                     push!(FALSE, ask!(HEAD));
-                    go_on!(NO)
+                    go!(way, usize::from(ask!(NO)))
                 }
             }
             ON_FI => {
@@ -166,7 +161,7 @@ pub fn run(program: &Program, place: &mut Place, store: &mut Store, n: u32) -> (
                     break 31;
                 }
                 pop!();
-                go_on!(YES)
+                go!(way, yes)
             }
             ON_FROM => {
                 let holds = answered!(worth(tables, store, expression!()));
@@ -177,27 +172,28 @@ pub fn run(program: &Program, place: &mut Place, store: &mut Store, n: u32) -> (
                             break 31;
                         }
                         kinds[top] = IN_DO;
-                        go_on!(YES)
+                        go!(way, yes)
                     }
                     _ => {
                         if !holds {
                             break 31;
                         }
                         push!(IN_DO, ask!(HEAD));
-                        go_on!(YES)
+                        go!(way, yes)
                     }
                 }
             }
             ON_UNTIL => {
                 if answered!(worth(tables, store, expression!())) {
                     pop!();
-                    go_on!(YES)
+                    go!(way, yes)
                 } else {
                     kinds[count.wrapping_sub(1)] = IN_LOOP;
-                    go_on!(NO)
+                    go!(way, usize::from(ask!(NO)))
                 }
             }
-            GO_ON | 14 | 15 => go_on!(YES),
+            GO_ON => go!(way, yes),
+            14 | 15 => go!(way, n as usize),
             _ => break 1,
         }
     };

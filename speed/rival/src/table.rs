@@ -17,8 +17,8 @@ pub const MATE: usize = 5;
 
 pub type Row = [u16; 8];
 
-/// Room after the longest file, so that an operator and two constants can be read wherever one begins.
-pub const FILE_ROOM: usize = MAX_FILE + 32;
+/// Room for what an expression's head reads wherever a u16 points.
+pub const FILE_ROOM: usize = 65_536 + 32;
 
 /// Columns of the map, each by way: a label, and `MAX_RECORDS` more upwards. What the record does there.
 pub const ACT: usize = 0;
@@ -61,8 +61,8 @@ pub struct Program {
 pub struct Tables {
     pub file: [u8; FILE_ROOM],
     pub ways: Ways,
-    /// First cell and length of each array.
-    pub arrays: [[u16; 2]; 16],
+    /// First cell and length of each array, by any byte.
+    pub arrays: [[u16; 2]; 256],
 }
 
 impl Program {
@@ -70,7 +70,7 @@ impl Program {
         let records = check(bytes)?;
         let (scalars, lengths) = declared(bytes, &records[0]);
         let mut tables = Box::new(Tables {
-            arrays: [[0; 2]; 16],
+            arrays: [[0; 2]; 256],
             ways: [[0; WAYS]; 7],
             file: [0; FILE_ROOM],
         });

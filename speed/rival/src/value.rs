@@ -2,7 +2,6 @@
 
 use crate::check::MAX_FILE;
 use crate::table::Tables;
-use std::hint::cold_path;
 
 /// A store has room for this many cells, so that no cell needs a test.
 pub const MAX_CELLS: usize = 2048;
@@ -48,9 +47,9 @@ fn leaf(tables: &Tables, store: &Store, at: usize) -> Option<(i32, usize)> {
     }
 }
 
-/// An operator on two constants or scalars; the position leaves room for it.
+/// An operator on two constants or scalars, but no division; the position leaves room for it.
 #[inline(always)]
-fn pair(tables: &Tables, store: &Store, at: usize) -> Option<Told> {
+fn pair(tables: &Tables, store: &Store, at: usize) -> Option<(i32, usize)> {
     let file = &tables.file;
     if file[at] != 3 {
         return None;
@@ -68,53 +67,44 @@ fn pair(tables: &Tables, store: &Store, at: usize) -> Option<Told> {
         }
         _ => return None,
     };
-    Some(apply(file[at + 1], left, right, next))
+    Some((plain(file[at + 1], left, right)?, next))
 }
 
 /// The same as `value`; a constant or a scalar needs no call.
 #[inline(always)]
-pub fn operand(tables: &Tables, store: &Store, at: usize) -> Answer {
-    let here = at & (MAX_FILE - 1);
-    match leaf(tables, store, here) {
-        Some(told) => Ok(told),
-        None => {
-            cold_path();
-            answer(value(tables, store, here))
-        }
+pub fn operand(tables: &Tables, store: &Store, at: u16) -> Answer {
+    let here = usize::from(at);
+    match tables.file[here] {
+        0 => Ok((constant(tables, here + 1), here + 5)),
+        1 => Ok((scalar(tables, store, here + 1), here + 3)),
+        _ => answer(value(tables, store, here)),
     }
 }
 
-/// The value of an expression; both sides always. What needs no call of its own needs no frame here.
+/// The value of an array's entry or of an operator; both sides always. What needs no call of its own needs no frame here.
+#[cold]
 #[inline(never)]
 pub fn value(tables: &Tables, store: &Store, at: usize) -> Told {
     let here = at & (MAX_FILE - 1);
     let file = &tables.file;
-    match file[here] {
-        3 => {
-            let (left, middle) = match leaf(tables, store, here + 2) {
+    if file[here] == 2 {
+        let (index, next) = match leaf(tables, store, here + 3) {
+            Some(told) => told,
+            None => match pair(tables, store, here + 3) {
                 Some(told) => told,
-                None => match pair(tables, store, here + 2) {
-                    Some((number, REFUSED)) => return (number, REFUSED),
-                    Some(told) => told,
-                    None => return left_first(tables, store, here),
-                },
-            };
-            right_then(tables, store, here, left, middle)
-        }
-        2 => {
-            let (index, next) = match leaf(tables, store, here + 3) {
-                Some(told) => told,
-                None => match pair(tables, store, here + 3) {
-                    Some((number, REFUSED)) => return (number, REFUSED),
-                    Some(told) => told,
-                    None => return entry(tables, store, here),
-                },
-            };
-            held(tables, store, usize::from(file[here + 1]), index, next)
-        }
-        1 => (scalar(tables, store, here + 1), here + 3),
-        _ => (constant(tables, here + 1), here + 5),
+                None => return entry(tables, store, here),
+            },
+        };
+        return held(tables, store, file[here + 1], index, next);
     }
+    let (left, middle) = match leaf(tables, store, here + 2) {
+        Some(told) => told,
+        None => match pair(tables, store, here + 2) {
+            Some(told) => told,
+            None => return left_first(tables, store, here),
+        },
+    };
+    right_then(tables, store, here, left, middle)
 }
 
 #[inline(always)]
@@ -156,11 +146,11 @@ fn entry(tables: &Tables, store: &Store, at: usize) -> Told {
     if next == REFUSED {
         return (index, REFUSED);
     }
-    held(tables, store, usize::from(tables.file[here + 1]), index, next)
+    held(tables, store, tables.file[here + 1], index, next)
 }
 
 #[inline(always)]
-fn held(tables: &Tables, store: &Store, array: usize, index: i32, next: usize) -> Told {
+fn held(tables: &Tables, store: &Store, array: u8, index: i32, next: usize) -> Told {
     match cell_at(tables, array, index) {
         Some(cell) => (store[cell], next),
         None => (33, REFUSED),
@@ -168,47 +158,53 @@ fn held(tables: &Tables, store: &Store, array: usize, index: i32, next: usize) -
 }
 
 #[inline(always)]
-fn cell_at(tables: &Tables, array: usize, index: i32) -> Option<usize> {
-    let [first, length] = tables.arrays[array & 15];
+fn cell_at(tables: &Tables, array: u8, index: i32) -> Option<usize> {
+    let [first, length] = tables.arrays[usize::from(array)];
     let cell = (u32::from(first).wrapping_add(index as u32)) as usize & (MAX_CELLS - 1);
     ((index as u32) < u32::from(length)).then_some(cell)
 }
 
-/// Whether a condition holds: an operator on two constants or scalars needs no call.
+/// Whether a condition holds: a comparison of a scalar with a constant or a scalar needs no call.
 #[inline(always)]
-pub fn worth(tables: &Tables, store: &Store, at: usize) -> Result<bool, i32> {
-    let here = at & (MAX_FILE - 1);
+pub fn worth(tables: &Tables, store: &Store, at: u16) -> Result<bool, i32> {
+    let here = usize::from(at);
     let file = &tables.file;
     if file[here] == 3 && file[here + 2] == 1 && file[here + 1] >= 10 {
         let left = scalar(tables, store, here + 3);
-        if let Some((right, _)) = leaf(tables, store, here + 5) {
-            return Ok(compared(file[here + 1], left, right));
+        match file[here + 5] {
+            0 => return Ok(compared(file[here + 1], left, constant(tables, here + 6))),
+            1 => return Ok(compared(file[here + 1], left, scalar(tables, store, here + 6))),
+            _ => {}
         }
     }
-    cold_path();
-    match answer(value(tables, store, here)) {
+    match operand(tables, store, at) {
         Ok((value, _)) => Ok(value != 0),
         Err(number) => Err(number),
     }
 }
 
-/// For each operator that compares, a bit where it holds for less, equal and more.
-const HOLDS: [u8; 16] = [0, 0, 0, 0, 0, 0, 0, 0, 0, 0, 1, 4, 2, 5, 3, 6];
+/// For each operator that compares, a bit where it holds for equal, more and less: by -1, 0 and 1 in 32 bits.
+const HOLDS: [u32; 256] = {
+    let (less, equal, more) = (1 << 31, 1, 2);
+    let mut holds = [0; 256];
+    holds[10] = less;
+    holds[11] = more;
+    holds[12] = equal;
+    holds[13] = less | more;
+    holds[14] = less | equal;
+    holds[15] = more | equal;
+    holds
+};
 
 #[inline(always)]
 fn compared(operator: u8, left: i32, right: i32) -> bool {
-    let order = left.cmp(&right) as i8 + 1;
-    HOLDS[usize::from(operator & 15)] >> order & 1 != 0
+    let order = left.cmp(&right) as i32 as u32;
+    HOLDS[usize::from(operator)].wrapping_shr(order) & 1 != 0
 }
 
 /// The cell of an array at the index that stands at the position, tested, and the position after it.
 #[inline(always)]
-pub fn cell(
-    tables: &Tables,
-    store: &Store,
-    array: usize,
-    at: usize,
-) -> Result<(usize, usize), i32> {
+pub fn cell(tables: &Tables, store: &Store, array: u8, at: u16) -> Result<(usize, usize), i32> {
     let (index, next) = operand(tables, store, at)?;
     match cell_at(tables, array, index) {
         Some(cell) => Ok((cell, next)),
@@ -218,19 +214,21 @@ pub fn cell(
 
 #[inline(always)]
 fn apply(operator: u8, left: i32, right: i32, next: usize) -> Told {
-    let wrapped = match operator & 15 {
+    match plain(operator, left, right) {
+        Some(value) => (value, next),
+        None => divided(operator, left, right, next),
+    }
+}
+
+/// Any operator but a division.
+#[inline(always)]
+fn plain(operator: u8, left: i32, right: i32) -> Option<i32> {
+    Some(match operator & 15 {
         0 => left.wrapping_add(right),
         1 => left.wrapping_sub(right),
         2 => left ^ right,
         3 => left.wrapping_mul(right),
-        4 => {
-            cold_path();
-            return divided(left, right, next);
-        }
-        5 => {
-            cold_path();
-            return rest(left, right, next);
-        }
+        4 | 5 => return None,
         6 => left & right,
         7 => left | right,
         8 => i32::from(left != 0 && right != 0),
@@ -241,23 +239,19 @@ fn apply(operator: u8, left: i32, right: i32, next: usize) -> Told {
         13 => i32::from(left != right),
         14 => i32::from(left <= right),
         _ => i32::from(left >= right),
-    };
-    (wrapped, next)
+    })
 }
 
+#[cold]
 #[inline(never)]
-fn divided(left: i32, right: i32, next: usize) -> Told {
-    match right {
-        0 => (32, REFUSED),
-        _ => (quotient(left, right), next),
+fn divided(operator: u8, left: i32, right: i32, next: usize) -> Told {
+    if right == 0 {
+        return (32, REFUSED);
     }
-}
-
-#[inline(never)]
-fn rest(left: i32, right: i32, next: usize) -> Told {
-    match right {
-        0 => (32, REFUSED),
-        _ => (left.wrapping_sub(quotient(left, right).wrapping_mul(right)), next),
+    let quotient = quotient(left, right);
+    match operator {
+        4 => (quotient, next),
+        _ => (left.wrapping_sub(quotient.wrapping_mul(right)), next),
     }
 }
 
