@@ -2,7 +2,7 @@
 
 use crate::check::*;
 use crate::table::*;
-use crate::value::{cell, operand, worth, Store, MAX_CELLS};
+use crate::value::{entry_change, operand, worth, Store, MAX_CELLS};
 
 pub const MAX_FRAMES: usize = 1104;
 const MAX_CALLS: usize = 64;
@@ -44,14 +44,19 @@ impl Place {
 /// (or its label: the direction of it is not asked). Every act counts its step and goes on by itself, so that the next act is
 /// chosen at the end of each. A refused step changes nothing.
 pub fn run(program: &Program, place: &mut Place, store: &mut Store, n: u32) -> (u32, u8) {
-    let tables = &*program.tables;
+    let (left, reason) = steps(&program.tables, place, store, n);
+    (n - left, reason)
+}
+
+/// Steps not made and the reason.
+#[inline(never)]
+fn steps(tables: &Tables, place: &mut Place, store: &mut Store, mut left: u32) -> (u32, u8) {
     let is_call = |kind: &&u16| **kind == CALLED;
     let mut calls = place.kinds[..place.count].iter().filter(is_call).count();
     let mut way = usize::from(place.b) + MAX_RECORDS * place.direction;
     let mut a = usize::from(place.a);
     let mut count = place.count;
     let (kinds, labels) = (&mut place.kinds, &mut place.labels);
-    let mut left = n;
     let reason = loop {
         if left == 0 {
             break 0;
@@ -111,11 +116,11 @@ pub fn run(program: &Program, place: &mut Place, store: &mut Store, n: u32) -> (
         }
         macro_rules! set_entry {
             ($by:expr) => {{
-                let array = ask!(SECOND) as u8;
-                let (cell, next) = answered!(cell(tables, store, array, expression!()));
-                let (change, _) = answered!(operand(tables, store, next as u16));
-                let held = &mut store[cell & (MAX_CELLS - 1)];
-                *held = $by(*held, change);
+                let (cell, change) = entry_change(tables, store, ask!(SECOND) as u8, expression!());
+                if cell >= MAX_CELLS {
+                    break change as u8;
+                }
+                store[cell] = $by(store[cell], change);
                 go!(way, yes)
             }};
         }
@@ -193,11 +198,11 @@ pub fn run(program: &Program, place: &mut Place, store: &mut Store, n: u32) -> (
                 }
             }
             GO_ON => go!(way, yes),
-            14 | 15 => go!(way, n as usize),
+            14 | 15 => go!(way, count),
             _ => break 1,
         }
     };
     (place.direction, place.b) = (way / MAX_RECORDS, (way % MAX_RECORDS) as u16);
     (place.a, place.count) = ((a % MAX_RECORDS) as u16, count);
-    (n - left, reason)
+    (left, reason)
 }

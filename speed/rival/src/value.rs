@@ -2,6 +2,7 @@
 
 use crate::check::MAX_FILE;
 use crate::table::Tables;
+use std::hint::cold_path;
 
 /// A store has room for this many cells, so that no cell needs a test.
 pub const MAX_CELLS: usize = 2048;
@@ -61,6 +62,7 @@ fn pair(tables: &Tables, store: &Store, at: usize) -> Option<(i32, usize)> {
             (left, right, next)
         }
         0 => {
+            cold_path();
             let left = constant(tables, at + 3);
             let (right, next) = leaf(tables, store, at + 7)?;
             (left, right, next)
@@ -87,24 +89,28 @@ pub fn operand(tables: &Tables, store: &Store, at: u16) -> Answer {
 pub fn value(tables: &Tables, store: &Store, at: usize) -> Told {
     let here = at & (MAX_FILE - 1);
     let file = &tables.file;
-    if file[here] == 2 {
-        let (index, next) = match leaf(tables, store, here + 3) {
-            Some(told) => told,
-            None => match pair(tables, store, here + 3) {
+    if file[here] == 3 {
+        let (left, middle) = match file[here + 2] {
+            1 => (scalar(tables, store, here + 3), here + 5),
+            0 => {
+                cold_path();
+                (constant(tables, here + 3), here + 7)
+            }
+            _ => match pair(tables, store, here + 2) {
                 Some(told) => told,
-                None => return entry(tables, store, here),
+                None => return left_first(tables, store, here),
             },
         };
-        return held(tables, store, file[here + 1], index, next);
+        return right_then(tables, store, here, left, middle);
     }
-    let (left, middle) = match leaf(tables, store, here + 2) {
+    let (index, next) = match leaf(tables, store, here + 3) {
         Some(told) => told,
-        None => match pair(tables, store, here + 2) {
+        None => match pair(tables, store, here + 3) {
             Some(told) => told,
-            None => return left_first(tables, store, here),
+            None => return entry(tables, store, here),
         },
     };
-    right_then(tables, store, here, left, middle)
+    held(tables, store, file[here + 1], index, next)
 }
 
 #[inline(always)]
@@ -202,13 +208,29 @@ fn compared(operator: u8, left: i32, right: i32) -> bool {
     HOLDS[usize::from(operator)].wrapping_shr(order) & 1 != 0
 }
 
-/// The cell of an array at the index that stands at the position, tested, and the position after it.
-#[inline(always)]
-pub fn cell(tables: &Tables, store: &Store, array: u8, at: u16) -> Result<(usize, usize), i32> {
-    let (index, next) = operand(tables, store, at)?;
-    match cell_at(tables, array, index) {
-        Some(cell) => Ok((cell, next)),
-        None => Err(33),
+/// The cell of an array that a SET changes and by what: its index and then its expression, which stand at the position. Or
+/// no cell, and the number that refuses it.
+#[cold]
+#[inline(never)]
+pub fn entry_change(tables: &Tables, store: &Store, array: u8, at: u16) -> (usize, i32) {
+    let here = usize::from(at);
+    let index = match leaf(tables, store, here) {
+        Some(told) => Ok(told),
+        None => match pair(tables, store, here) {
+            Some(told) => Ok(told),
+            None => answer(value(tables, store, here)),
+        },
+    };
+    let (index, next) = match index {
+        Ok(told) => told,
+        Err(number) => return (MAX_CELLS, number),
+    };
+    let Some(cell) = cell_at(tables, array, index) else {
+        return (MAX_CELLS, 33);
+    };
+    match operand(tables, store, next as u16) {
+        Ok((change, _)) => (cell, change),
+        Err(number) => (MAX_CELLS, number),
     }
 }
 
