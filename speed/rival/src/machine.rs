@@ -41,8 +41,7 @@ impl Place {
 /// Steps made and the reason, 0 where all n were made. The place fits; the store's cells come first.
 ///
 /// All but the frames stays in registers. The way is the label met and the direction in one number, `a` the way before it
-/// (or its label: the direction of it is not asked). Every act counts its step and goes on by itself, so that the next act is
-/// chosen at the end of each. A refused step changes nothing.
+/// (or its label: the direction of it is not asked). Each turn is a step; a refused one changes nothing.
 pub fn run(program: &Program, place: &mut Place, store: &mut Store, n: u32) -> (u32, u8) {
     let (left, reason) = steps(&program.tables, place, store, n);
     (n - left, reason)
@@ -61,6 +60,7 @@ fn steps(tables: &Tables, place: &mut Place, store: &mut Store, mut left: u32) -
         if left == 0 {
             break 0;
         }
+        // Never so: a test that is foretold is off the chain from way to way, a mask would be on it.
         if way >= WAYS {
             break 1;
         }
@@ -131,7 +131,10 @@ fn steps(tables: &Tables, place: &mut Place, store: &mut Store, mut left: u32) -
                 }
                 calls -= 1;
                 let label = usize::from(pop!());
-                go!(label, usize::from(tables.ways[YES][label % MAX_RECORDS + $side]))
+                go!(
+                    label,
+                    usize::from(tables.ways[YES][label % MAX_RECORDS + $side])
+                )
             }};
         }
         match ask!(ACT) & 15 {
@@ -198,6 +201,8 @@ fn steps(tables: &Tables, place: &mut Place, store: &mut Store, mut left: u32) -
                 }
             }
             GO_ON => go!(way, yes),
+            // No record has these: they make the match whole without a test of its own, and the count, which is no u16, keeps
+            // the way a full register (a u16 would be widened again in every step, on the longest chain of the loop).
             14 | 15 => go!(way, count),
             _ => break 1,
         }

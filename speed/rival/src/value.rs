@@ -179,7 +179,13 @@ pub fn worth(tables: &Tables, store: &Store, at: u16) -> Result<bool, i32> {
         let left = scalar(tables, store, here + 3);
         match file[here + 5] {
             0 => return Ok(compared(file[here + 1], left, constant(tables, here + 6))),
-            1 => return Ok(compared(file[here + 1], left, scalar(tables, store, here + 6))),
+            1 => {
+                return Ok(compared(
+                    file[here + 1],
+                    left,
+                    scalar(tables, store, here + 6),
+                ))
+            }
             _ => {}
         }
     }
@@ -189,7 +195,8 @@ pub fn worth(tables: &Tables, store: &Store, at: u16) -> Result<bool, i32> {
     }
 }
 
-/// For each operator that compares, a bit where it holds for equal, more and less: by -1, 0 and 1 in 32 bits.
+/// For each operator that compares, what it says of less, equal and more: bits 31, 0 and 1, which shifts by -1, 0 and 1 bring
+/// to the lowest place.
 const HOLDS: [u32; 256] = {
     let (less, equal, more) = (1 << 31, 1, 2);
     let mut holds = [0; 256];
