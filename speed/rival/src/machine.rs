@@ -2,7 +2,7 @@
 
 use crate::check::*;
 use crate::table::*;
-use crate::value::{cell, operand, reason, worth, MAX_CELLS};
+use crate::value::{entry_change, operand, worth, Store, MAX_CELLS};
 
 pub const MAX_FRAMES: usize = 1104;
 const MAX_CALLS: usize = 64;
@@ -39,197 +39,175 @@ impl Place {
 }
 
 /// Steps made and the reason, 0 where all n were made. The place fits; the store's cells come first.
-pub fn run(
-    program: &Program,
-    place: &mut Place,
-    store: &mut [i32; MAX_CELLS],
-    n: u32,
-) -> (u32, u8) {
+///
+/// All but the frames stays in registers. The way is the label met and the direction in one number, `a` the way before it
+/// (or its label: the direction of it is not asked). Each turn is a step; a refused one changes nothing.
+pub fn run(program: &Program, place: &mut Place, store: &mut Store, n: u32) -> (u32, u8) {
+    let (left, reason) = steps(&program.tables, place, store, n);
+    (n - left, reason)
+}
+
+/// Steps not made and the reason.
+#[inline(never)]
+fn steps(tables: &Tables, place: &mut Place, store: &mut Store, mut left: u32) -> (u32, u8) {
     let is_call = |kind: &&u16| **kind == CALLED;
-    let mut going = Going {
-        calls: place.kinds[..place.count].iter().filter(is_call).count(),
-        way: usize::from(place.b) + MAX_RECORDS * place.direction,
-        a: place.a,
-        count: place.count,
-        kinds: &mut place.kinds,
-        labels: &mut place.labels,
-    };
-    let mut steps = 0;
-    let mut reason = 0;
-    while steps < n {
-        reason = going.step(program, store);
-        if reason != 0 {
-            break;
+    let mut calls = place.kinds[..place.count].iter().filter(is_call).count();
+    let mut way = usize::from(place.b) + MAX_RECORDS * place.direction;
+    let mut a = usize::from(place.a);
+    let mut count = place.count;
+    let (kinds, labels) = (&mut place.kinds, &mut place.labels);
+    let reason = loop {
+        if left == 0 {
+            break 0;
         }
-        steps += 1;
-    }
-    let Going { way, a, count, .. } = going;
-    (place.direction, place.b) = (way / MAX_RECORDS, (way % MAX_RECORDS) as u16);
-    (place.a, place.count) = (a, count);
-    (steps, reason)
-}
-
-/// The place during a run: all but the frames stays in registers. The way is the label met and the direction in one number.
-struct Going<'a> {
-    way: usize,
-    a: u16,
-    count: usize,
-    calls: usize,
-    kinds: &'a mut [u16; MAX_FRAMES],
-    labels: &'a mut [u16; MAX_FRAMES],
-}
-
-impl Going<'_> {
-    #[inline(always)]
-    fn label(&self) -> u16 {
-        (self.way % MAX_RECORDS) as u16
-    }
-
-    #[inline(always)]
-    fn push(&mut self, kind: u16, label: u16) {
-        self.kinds[self.count] = kind;
-        self.labels[self.count] = label;
-        self.count += 1;
-    }
-
-    #[inline(always)]
-    fn pop(&mut self) -> u16 {
-        self.count -= 1;
-        let label = self.labels[self.count];
-        self.kinds[self.count] = 0;
-        self.labels[self.count] = 0;
-        label
-    }
-
-    #[inline(always)]
-    fn go(&mut self, next: u16) -> u8 {
-        self.a = self.label();
-        self.way = usize::from(next);
-        0
-    }
-
-    /// 0 where it arrived; a refused step changes nothing.
-    #[inline(always)]
-    fn step(&mut self, program: &Program, store: &mut [i32; MAX_CELLS]) -> u8 {
-        let row = program.row(self.way);
-        match row[ACT] {
-            SET => {
-                let mut at = usize::from(row[EXPR]);
-                let refused = set(program, store, &mut at, row[FIRST], i64::from(row[SECOND]));
-                if refused != 0 {
-                    return refused;
-                }
-                self.go(row[YES])
-            }
-            SET_ENTRY => {
-                let mut at = usize::from(row[EXPR]);
-                let target = cell(program, store, row[SECOND], &mut at);
-                if reason(target) != 0 {
-                    return reason(target);
-                }
-                let refused = set(program, store, &mut at, row[FIRST], target);
-                if refused != 0 {
-                    return refused;
-                }
-                self.go(row[YES])
-            }
-            SKIP => self.go(row[YES]),
-            CALL => self.enter(row),
-            RETURN => self.leave(program),
-            _ => self.test(program, store, row),
+        // Never so: a test that is foretold is off the chain from way to way, a mask would be on it.
+        if way >= WAYS {
+            break 1;
         }
-    }
-
-    #[inline(always)]
-    fn enter(&mut self, row: &Row) -> u8 {
-        if self.calls == MAX_CALLS {
-            return 34;
+        let yes = usize::from(tables.ways[YES][way]);
+        macro_rules! go {
+            ($from:expr, $to:expr) => {{
+                (a, way) = ($from, $to);
+                left -= 1;
+                continue;
+            }};
         }
-        self.calls += 1;
-        self.push(CALLED, self.label());
-        (self.a, self.way) = (row[FIRST], usize::from(row[SECOND]));
-        0
-    }
-
-    #[inline(always)]
-    fn leave(&mut self, program: &Program) -> u8 {
-        if self.calls == 0 {
-            return 30;
+        macro_rules! ask {
+            ($column:expr) => {
+                tables.ways[$column][way]
+            };
         }
-        self.calls -= 1;
-        self.a = self.pop();
-        let side = self.way & MAX_RECORDS;
-        self.way = usize::from(program.row(usize::from(self.a) | side)[YES]);
-        0
-    }
-
-    /// IF, FI, FROM and UNTIL, by what they do in this direction.
-    #[inline(always)]
-    fn test(&mut self, program: &Program, store: &[i32; MAX_CELLS], row: &Row) -> u8 {
-        let tested = worth(program, store, usize::from(row[EXPR]));
-        if reason(tested) != 0 {
-            return reason(tested);
+        macro_rules! expression {
+            () => {
+                ask!(EXPR)
+            };
         }
-        let holds = tested != 0;
-        let top = self.count.wrapping_sub(1);
-        match row[ACT] {
-            IF if holds => {
-                self.push(TRUE, row[HEAD]);
-                self.go(row[YES])
-            }
-            IF => {
-                self.push(FALSE, row[HEAD]);
-                self.go(row[NO])
-            }
-            FI => {
-                if (self.kinds[top] == TRUE) != holds {
-                    return 31;
+        macro_rules! answered {
+            ($answer:expr) => {
+                match $answer {
+                    Ok(told) => told,
+                    Err(number) => break number as u8,
                 }
-                self.pop();
-                self.go(row[YES])
-            }
-            FROM => {
-                let again = self.count > 0 && self.labels[top] == row[HEAD];
-                if holds == again {
-                    return 31;
+            };
+        }
+        macro_rules! push {
+            ($kind:expr, $label:expr) => {{
+                kinds[count] = $kind;
+                labels[count] = $label;
+                count += 1;
+            }};
+        }
+        macro_rules! pop {
+            () => {{
+                count -= 1;
+                let label = labels[count];
+                kinds[count] = 0;
+                labels[count] = 0;
+                label
+            }};
+        }
+        macro_rules! set {
+            ($by:expr) => {{
+                let (change, _) = answered!(operand(tables, store, expression!()));
+                let held = &mut store[usize::from(ask!(SECOND) as u8)];
+                *held = $by(*held, change);
+                go!(way, yes)
+            }};
+        }
+        macro_rules! set_entry {
+            ($by:expr) => {{
+                let (cell, change) = entry_change(tables, store, ask!(SECOND) as u8, expression!());
+                if cell >= MAX_CELLS {
+                    break change as u8;
                 }
-                if again {
-                    self.kinds[top] = IN_DO;
+                store[cell] = $by(store[cell], change);
+                go!(way, yes)
+            }};
+        }
+        macro_rules! leave {
+            ($side:expr) => {{
+                if calls == 0 {
+                    break 30;
+                }
+                calls -= 1;
+                let label = usize::from(pop!());
+                go!(
+                    label,
+                    usize::from(tables.ways[YES][label % MAX_RECORDS + $side])
+                )
+            }};
+        }
+        match ask!(ACT) & 15 {
+            SET_ADD => set!(i32::wrapping_add),
+            SET_SUB => set!(i32::wrapping_sub),
+            SET_XOR => set!(|held, change| held ^ change),
+            ENTRY_ADD => set_entry!(i32::wrapping_add),
+            ENTRY_SUB => set_entry!(i32::wrapping_sub),
+            ENTRY_XOR => set_entry!(|held, change| held ^ change),
+            GO_IN => {
+                if calls == MAX_CALLS {
+                    break 34;
+                }
+                calls += 1;
+                push!(CALLED, (way % MAX_RECORDS) as u16);
+                go!(usize::from(ask!(FIRST)), usize::from(ask!(SECOND)))
+            }
+            OUT_DOWN => leave!(0),
+            OUT_UP => leave!(MAX_RECORDS),
+            ON_IF => {
+                if answered!(worth(tables, store, expression!())) {
+                    push!(TRUE, ask!(HEAD));
+                    go!(way, yes)
                 } else {
-                    self.push(IN_DO, row[HEAD]);
+                    push!(FALSE, ask!(HEAD));
+                    go!(way, usize::from(ask!(NO)))
                 }
-                self.go(row[YES])
             }
-            _ if holds => {
-                self.pop();
-                self.go(row[YES])
+            ON_FI => {
+                let holds = answered!(worth(tables, store, expression!()));
+                if (kinds[count.wrapping_sub(1)] == TRUE) != holds {
+                    break 31;
+                }
+                pop!();
+                go!(way, yes)
             }
-            _ => {
-                self.kinds[top] = IN_LOOP;
-                self.go(row[NO])
+            ON_FROM => {
+                let holds = answered!(worth(tables, store, expression!()));
+                let top = count.wrapping_sub(1);
+                match labels.get(top) {
+                    Some(label) if *label == ask!(HEAD) => {
+                        if holds {
+                            break 31;
+                        }
+                        kinds[top] = IN_DO;
+                        go!(way, yes)
+                    }
+                    _ => {
+                        if !holds {
+                            break 31;
+                        }
+                        push!(IN_DO, ask!(HEAD));
+                        go!(way, yes)
+                    }
+                }
             }
+            ON_UNTIL => {
+                if answered!(worth(tables, store, expression!())) {
+                    pop!();
+                    go!(way, yes)
+                } else {
+                    kinds[count.wrapping_sub(1)] = IN_LOOP;
+                    go!(way, usize::from(ask!(NO)))
+                }
+            }
+            GO_ON => go!(way, yes),
+            // No record has these: they make the match whole without a test of its own, and the count, which is no u16, keeps
+            // the way a full register (a u16 would be widened again in every step, on the longest chain of the loop).
+            14 | 15 => go!(way, count),
+            _ => break 1,
         }
-    }
-}
-
-#[inline(always)]
-fn set(
-    program: &Program,
-    store: &mut [i32; MAX_CELLS],
-    at: &mut usize,
-    operator: u16,
-    target: i64,
-) -> u8 {
-    let change = operand(program, store, at);
-    if reason(change) != 0 {
-        return reason(change);
-    }
-    let change = change as i32;
-    let held = &mut store[target as usize & (MAX_CELLS - 1)];
-    *held = match operator {
-        0 => held.wrapping_add(change),
-        1 => held.wrapping_sub(change),
-        _ => *held ^ change,
     };
-    0
+    (place.direction, place.b) = (way / MAX_RECORDS, (way % MAX_RECORDS) as u16);
+    (place.a, place.count) = ((a % MAX_RECORDS) as u16, count);
+    (left, reason)
 }

@@ -17,64 +17,79 @@ pub const MATE: usize = 5;
 
 pub type Row = [u16; 8];
 
-/// Room after the longest file, so that four bytes can be read wherever one begins.
-pub const FILE_ROOM: usize = MAX_FILE + 8;
+/// Room for what an expression's head reads wherever a u16 points.
+pub const FILE_ROOM: usize = 65_536 + 32;
 
-/// Columns of the map, one row a way: a label, and `MAX_RECORDS` more upwards. What the record does there.
+/// Columns of the map, each by way: a label, and `MAX_RECORDS` more upwards. What the record does there.
 pub const ACT: usize = 0;
 /// The way on from it, where its test holds or there is none; and where it does not hold.
 pub const YES: usize = 1;
 pub const NO: usize = 2;
-/// A call's record by which the procedure is entered and the way from there, or a SET's operator and its cell or array.
+/// A call's record by which the procedure is entered; the way from there, or a SET's cell or array.
 pub const FIRST: usize = 3;
 pub const SECOND: usize = 4;
 /// Where its expression stands; the label of its construct's IF or FROM.
 pub const EXPR: usize = 5;
 pub const HEAD: usize = 6;
 
-/// What `ACT` says, beside the kinds of records that do it downwards.
-pub const RETURN: u16 = 3;
-pub const SET_ENTRY: u16 = 6;
+/// What `ACT` says.
+pub const GO_ON: u16 = 0;
+pub const SET_ADD: u16 = 1;
+pub const SET_SUB: u16 = 2;
+pub const SET_XOR: u16 = 3;
+pub const ENTRY_ADD: u16 = 4;
+pub const ENTRY_SUB: u16 = 5;
+pub const ENTRY_XOR: u16 = 6;
+pub const GO_IN: u16 = 7;
+pub const OUT_DOWN: u16 = 8;
+pub const OUT_UP: u16 = 9;
+pub const ON_IF: u16 = 10;
+pub const ON_FI: u16 = 11;
+pub const ON_FROM: u16 = 12;
+pub const ON_UNTIL: u16 = 13;
 
 pub const WAYS: usize = 2 * MAX_RECORDS;
+pub type Ways = [[u16; WAYS]; 7];
 
 pub struct Program {
-    pub file: Box<[u8; FILE_ROOM]>,
-    pub ways: Box<[Row; WAYS]>,
-    /// First cell and length of each array.
-    pub arrays: [[u16; 2]; 16],
+    pub tables: Box<Tables>,
     pub cells: usize,
 }
 
-impl Program {
-    #[inline(always)]
-    pub fn row(&self, way: usize) -> &Row {
-        &self.ways[way & (WAYS - 1)]
-    }
+/// The file comes first, so that the same address serves its bytes and the tables.
+#[repr(C)]
+pub struct Tables {
+    pub file: [u8; FILE_ROOM],
+    pub ways: Ways,
+    /// First cell and length of each array, by any byte.
+    pub arrays: [[u16; 2]; 256],
+}
 
+impl Program {
     pub fn new(bytes: &[u8]) -> Result<Program, Fault> {
         let records = check(bytes)?;
         let (scalars, lengths) = declared(bytes, &records[0]);
-        let mut arrays = [[0; 2]; 16];
+        let mut tables = Box::new(Tables {
+            arrays: [[0; 2]; 256],
+            ways: [[0; WAYS]; 7],
+            file: [0; FILE_ROOM],
+        });
         let mut cells = scalars;
-        for (row, length) in arrays.iter_mut().zip(lengths) {
+        for (row, length) in tables.arrays.iter_mut().zip(lengths) {
             *row = [cells, length];
             cells += length;
         }
-        let mut file = Box::new([0; FILE_ROOM]);
-        file[..bytes.len()].copy_from_slice(bytes);
+        tables.file[..bytes.len()].copy_from_slice(bytes);
+        tell_ways(&mut tables.ways, bytes, &rows(bytes, &records));
         Ok(Program {
-            file,
-            ways: ways(bytes, &rows(bytes, &records)),
-            arrays,
+            tables,
             cells: usize::from(cells),
         })
     }
 }
 
 /// The map: all that a step asks, by label and direction.
-fn ways(file: &[u8], rows: &[Row; MAX_RECORDS]) -> Box<[Row; WAYS]> {
-    let mut ways = Box::new([[0; 8]; WAYS]);
+fn tell_ways(ways: &mut Ways, file: &[u8], rows: &[Row; MAX_RECORDS]) {
     for (label, row) in rows
         .iter()
         .enumerate()
@@ -82,47 +97,49 @@ fn ways(file: &[u8], rows: &[Row; MAX_RECORDS]) -> Box<[Row; WAYS]> {
         .filter(|(_, row)| row[KIND] != 0)
     {
         for up in [0, 1] {
-            ways[label + MAX_RECORDS * up] = way_of(file, label as u16, row, up);
+            let told = way_of(file, label as u16, row, up);
+            for (column, entry) in ways.iter_mut().zip(told) {
+                column[label + MAX_RECORDS * up] = entry;
+            }
         }
     }
-    ways
 }
 
 fn way_of(file: &[u8], label: u16, row: &Row, up: usize) -> Row {
     let to = |label: u16, up: usize| label + (MAX_RECORDS * up) as u16;
     let onward = |up: usize| to(row[DOWN + up], up);
     let [kind, mid, mate] = [row[KIND], row[MID], row[MATE]];
-    let mut way = [kind, onward(up), 0, 0, 0, row[BODY], label, 0];
+    let mut way = [0, onward(up), 0, 0, 0, row[BODY], label, 0];
     match (kind, up) {
         (SET, _) => {
             let at = usize::from(row[BODY]);
-            way[ACT] = [SET, SET_ENTRY][usize::from(file[at + 1] != 0)];
-            way[FIRST] = match file[at] {
+            let operator = match file[at] {
                 2 => 2,
                 operator => u16::from(operator) ^ up as u16,
             };
+            way[ACT] = [SET_ADD, ENTRY_ADD][usize::from(file[at + 1] != 0)] + operator;
             way[SECOND] = u16_at(file, at + 2);
             way[EXPR] += 4;
         }
         (CALL | UNCALL, _) => {
             let turned = up ^ usize::from(kind == UNCALL);
-            way[ACT] = CALL;
+            way[ACT] = GO_IN;
             way[YES] = onward(turned);
             way[FIRST] = [mid, mate][turned];
             way[SECOND] = to([mid + 1, mate.wrapping_sub(1)][turned], turned);
         }
-        (BEGIN | END, _) => way[ACT] = RETURN,
-        (IF, 0) => (way[YES], way[NO]) = (label + 1, mid + 1),
-        (IF, _) => way[ACT] = FI,
-        (FI, 0) => {}
+        (BEGIN | END, _) => way[ACT] = [OUT_DOWN, OUT_UP][up],
+        (IF, 0) => (way[ACT], way[YES], way[NO]) = (ON_IF, label + 1, mid + 1),
+        (IF, _) => way[ACT] = ON_FI,
+        (FI, 0) => way[ACT] = ON_FI,
         (FI, _) => {
-            way[ACT] = IF;
+            way[ACT] = ON_IF;
             (way[YES], way[NO], way[HEAD]) = (to(mid - 1, 1), to(label - 1, 1), mate);
         }
-        (FROM, 0) => way[YES] = label + 1,
-        (FROM, _) => (way[ACT], way[NO]) = (UNTIL, to(mate - 1, 1)),
-        (UNTIL, 0) => way[NO] = mid + 1,
-        (UNTIL, _) => (way[ACT], way[YES], way[HEAD]) = (FROM, to(mid - 1, 1), mate),
+        (FROM, 0) => (way[ACT], way[YES]) = (ON_FROM, label + 1),
+        (FROM, _) => (way[ACT], way[NO]) = (ON_UNTIL, to(mate - 1, 1)),
+        (UNTIL, 0) => (way[ACT], way[NO]) = (ON_UNTIL, mid + 1),
+        (UNTIL, _) => (way[ACT], way[YES], way[HEAD]) = (ON_FROM, to(mid - 1, 1), mate),
         _ => {}
     }
     way
