@@ -130,7 +130,7 @@ pub record Verdict (w : ℤ) (r : ℕ) : Type 0 where
 -- the comparisons that hold, 2^10 to 2^15 for `< > = != <= >=`: `<`, `!=` and `<=` where x is less; `=`, `<=` and `>=` where the two are
 -- equal; else `>`, `!=` and `>=`
 abbrev pub comparisons : ℤ → ℤ → ℕ
-comparisons x y = cond (ltZ x y) 25600 (cond (eqZ x y) 53248 43008)
+comparisons x y = cond (ltZ x y) (2 ^ 10 + 2 ^ 13 + 2 ^ 14) (cond (eqZ x y) (2 ^ 12 + 2 ^ 14 + 2 ^ 15) (2 ^ 11 + 2 ^ 13 + 2 ^ 15))
 
 -- ---- `mentions`
 abbrev pub nameOf : Bool → ℕ → Name

@@ -60,7 +60,7 @@ fn count(kinds: &[u16; 1104], n: usize) -> usize
     calls
 }
 
-pub fn calls(kinds: &[u16; 1104], n: usize) -> usize
+pub(crate) fn calls(kinds: &[u16; 1104], n: usize) -> usize
     ensures { λ r. ⌜ (r ≡ callsOf (now (kinds .entry)) n) × (r ≤ 1104) ⌝ }
 {
     if n <= 1104 {
@@ -85,7 +85,7 @@ fn way_of(b: u16, direction: u8) -> usize
 
 // At most n steps from a place of which so many frames are calls. In the loop the place is taken apart, so that all but the
 // frames stays in registers; the calls and the frames are counted in one number for that.
-pub fn go(
+pub(crate) fn go(
     bytes: &[u8; 32784],
     map: &[u16; 14336],
     arrays: &[u16; 32],
