@@ -1,23 +1,28 @@
-//! `rival N [show]`: a program file on standard input, run on zeros from the start down for at most
-//! N steps. Prints steps, reason and steps a second, the run alone timed; `show` prints in place of
-//! the last the place, its frames innermost first and the nonzero cells, as the second program does.
+//! `rival N [free] [show]`: a program file on standard input, run on zeros from the start down for at most N steps by the
+//! machine of the same design as ours, or by the one of a freer design. Prints steps, reason and steps a second, the run alone
+//! timed; `show` prints in place of the last the place, its frames innermost first and the nonzero cells, as the second
+//! program does.
 #![deny(unsafe_code)]
 
-use rival::machine::{run, Place};
-use rival::table::Program;
-use rival::value::MAX_CELLS;
+use rival::check::Fault;
+use rival::machine::Place;
+use rival::value::{Store, MAX_CELLS};
+use rival::{machine, same, table};
 use std::hint::black_box;
 use std::io::Read;
 use std::process::ExitCode;
 
 fn main() -> ExitCode {
     let words: Vec<String> = std::env::args().skip(1).collect();
-    let (n, show) = match &words[..] {
-        [n] => (n.parse(), false),
-        [n, word] if word == "show" => (n.parse(), true),
+    let words: Vec<&str> = words.iter().map(String::as_str).collect();
+    let (n, free, show) = match words[..] {
+        [n] => (n, false, false),
+        [n, "show"] => (n, false, true),
+        [n, "free"] => (n, true, false),
+        [n, "free", "show"] => (n, true, true),
         _ => return usage(),
     };
-    let Ok(n) = n else {
+    let Ok(n) = n.parse() else {
         return usage();
     };
     let mut file = vec![];
@@ -25,11 +30,30 @@ fn main() -> ExitCode {
         eprintln!("rival: standard input: {reason}");
         return ExitCode::from(1);
     }
-    match Program::new(&file) {
-        Ok(program) => timed(&program, n, show),
-        Err((number, record)) => println!("refused {number} record {record}"),
+    let told = match free {
+        true => by_free(&file, n, show),
+        false => by_same(&file, n, show),
+    };
+    if let Err((number, record)) = told {
+        println!("refused {number} record {record}");
     }
     ExitCode::SUCCESS
+}
+
+fn by_same(file: &[u8], n: u32, show: bool) -> Result<(), Fault> {
+    let program = same::map::Program::new(file)?;
+    timed(show, |place, store| {
+        same::machine::run(black_box(&program), place, store, n)
+    });
+    Ok(())
+}
+
+fn by_free(file: &[u8], n: u32, show: bool) -> Result<(), Fault> {
+    let program = table::Program::new(file)?;
+    timed(show, |place, store| {
+        machine::run(black_box(&program), place, store, n)
+    });
+    Ok(())
 }
 
 /// Processor time in microseconds, by C's `clock`: the one that our program is timed by, too.
@@ -42,15 +66,15 @@ fn clock() -> i64 {
 }
 
 fn usage() -> ExitCode {
-    eprintln!("usage: rival N [show] < FILE");
+    eprintln!("usage: rival N [free] [show] < FILE");
     ExitCode::from(2)
 }
 
-fn timed(program: &Program, n: u32, show: bool) {
+fn timed(show: bool, run: impl Fn(&mut Place, &mut Store) -> (u32, u8)) {
     let mut place = Place::start();
     let mut store = [0; MAX_CELLS];
     let before = clock();
-    let (steps, reason) = run(black_box(program), &mut place, &mut store, n);
+    let (steps, reason) = run(&mut place, &mut store);
     let seconds = (clock() - before) as f64 / 1e6;
     println!("steps {steps} stop {reason}");
     if show {

@@ -145,7 +145,7 @@ fn way_of(file: &[u8], label: u16, row: &Row, up: usize) -> Row {
     way
 }
 
-fn rows(file: &[u8], records: &[Record]) -> Box<[Row; MAX_RECORDS]> {
+pub fn rows(file: &[u8], records: &[Record]) -> Box<[Row; MAX_RECORDS]> {
     let mut rows = Box::new([[0; 8]; MAX_RECORDS]);
     for (row, record) in rows.iter_mut().zip(records) {
         row[KIND] = record.kind;
