@@ -41,9 +41,9 @@ fn main() -> ExitCode {
 }
 
 fn by_same(file: &[u8], n: u32, show: bool) -> Result<(), Fault> {
-    let program = same::map::Program::new(file)?;
+    let mut program = same::map::Program::new(file)?;
     timed(show, |place, store| {
-        same::machine::run(black_box(&program), place, store, n)
+        same::machine::run(black_box(&mut program), place, store, n)
     });
     Ok(())
 }
@@ -70,7 +70,7 @@ fn usage() -> ExitCode {
     ExitCode::from(2)
 }
 
-fn timed(show: bool, run: impl Fn(&mut Place, &mut Store) -> (u32, u8)) {
+fn timed(show: bool, mut run: impl FnMut(&mut Place, &mut Store) -> (u32, u8)) {
     let mut place = Place::start();
     let mut store = [0; MAX_CELLS];
     let before = clock();

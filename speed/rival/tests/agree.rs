@@ -45,8 +45,8 @@ fn run_free(file: &[u8], place: &mut Place, store: &mut Store, n: u32) -> (u32, 
 }
 
 fn run_same(file: &[u8], place: &mut Place, store: &mut Store, n: u32) -> (u32, u8) {
-    let program = same::map::Program::new(file).expect("sound");
-    same::machine::run(&program, place, store, n)
+    let mut program = same::map::Program::new(file).expect("sound");
+    same::machine::run(&mut program, place, store, n)
 }
 
 const BOTH: [Runs; 2] = [run_free, run_same];

@@ -1,9 +1,10 @@
 //! The run: one place moved in place, one record a turn.
 
 use super::map::*;
-use super::value::{cell_at, operand, worth, Cells};
+use super::value::{entry_change, operand, quick_worth, worth, NOWHERE};
 use crate::check::MAX_RECORDS;
 use crate::machine::Place;
+use std::hint::cold_path;
 
 const MAX_CALLS: usize = 64;
 
@@ -14,32 +15,33 @@ const IN_LOOP: u16 = 3;
 const CALLED: u16 = 4;
 
 /// Steps made and the reason, 0 where all n were made. The place fits; the store's cells come first.
-///
-/// All but the frames stays in registers. `a` is the way before or its label: the direction of it is not asked.
-pub fn run(program: &Program, place: &mut Place, cells: &mut Cells, n: u32) -> (u32, u8) {
-    let (left, reason) = steps(&program.tables, place, cells, n);
+pub fn run(program: &mut Program, place: &mut Place, store: &mut [i32; 2048], n: u32) -> (u32, u8) {
+    let run = &mut *program.run;
+    (run.kinds, run.labels, run.cells) = (place.kinds, place.labels, *store);
+    let (left, reason) = steps(run, place, n);
+    (place.kinds, place.labels, *store) = (run.kinds, run.labels, run.cells);
     (n - left, reason)
 }
 
-/// Steps not made and the reason.
+/// Steps not made and the reason. What changes at every step stays in registers; `a` is the way before, or its label.
 #[inline(never)]
-fn steps(tables: &Tables, place: &mut Place, cells: &mut Cells, mut left: u32) -> (u32, u8) {
+fn steps(run: &mut Run, place: &mut Place, mut left: u32) -> (u32, u8) {
     let is_call = |kind: &&u16| **kind == CALLED;
-    let mut calls = place.kinds[..place.count].iter().filter(is_call).count();
+    let mut calls = run.kinds[..place.count].iter().filter(is_call).count();
     let mut way = usize::from(place.b) + MAX_RECORDS * place.direction;
     let mut a = usize::from(place.a);
     let mut count = place.count;
-    let (kinds, labels) = (&mut place.kinds, &mut place.labels);
     let reason = loop {
         if left == 0 {
             break 0;
         }
         if way >= WAYS {
+            cold_path();
             break 21;
         }
         macro_rules! ask {
             ($section:expr) => {
-                usize::from(tables.map[$section][way])
+                usize::from(run.map[$section][way])
             };
         }
         let yes = ask!(YES);
@@ -50,32 +52,33 @@ fn steps(tables: &Tables, place: &mut Place, cells: &mut Cells, mut left: u32) -
                 continue;
             }};
         }
-        macro_rules! answered {
-            ($answer:expr) => {
-                match $answer {
-                    Ok(told) => told,
-                    Err(number) => break number as u8,
-                }
-            };
+        macro_rules! stop {
+            ($reason:expr) => {{
+                cold_path();
+                break $reason;
+            }};
         }
         macro_rules! push {
             ($kind:expr, $label:expr) => {{
-                kinds[count] = $kind;
-                labels[count] = $label as u16;
+                run.kinds[count] = $kind;
+                run.labels[count] = $label as u16;
                 count += 1;
             }};
         }
         macro_rules! pop {
             () => {{
                 count = count.wrapping_sub(1);
-                kinds[count] = 0;
-                labels[count] = 0;
+                run.kinds[count] = 0;
+                run.labels[count] = 0;
             }};
         }
         macro_rules! set {
             ($by:expr) => {{
-                let (change, _) = answered!(operand(tables, cells, ask!(EXPR)));
-                let held = &mut cells[ask!(SECOND)];
+                let change = match operand(run, ask!(EXPR)) {
+                    Ok((change, _)) => change,
+                    Err(number) => stop!(number as u8),
+                };
+                let held = &mut run.cells[ask!(SECOND)];
                 *held = $by(*held, change);
                 go!(way, yes)
             }};
@@ -83,29 +86,43 @@ fn steps(tables: &Tables, place: &mut Place, cells: &mut Cells, mut left: u32) -
         macro_rules! leave {
             ($side:expr) => {{
                 if calls == 0 {
-                    break 30;
+                    stop!(30);
                 }
-                let label = usize::from(labels[count.wrapping_sub(1)]);
+                let label = usize::from(run.labels[count.wrapping_sub(1)]);
                 if label >= MAX_RECORDS {
-                    break 21;
+                    stop!(21);
                 }
                 calls -= 1;
                 pop!();
-                go!(label, usize::from(tables.map[YES][label + $side]))
+                go!(label, usize::from(run.map[YES][label + $side]))
             }};
         }
-        match tables.map[ACT][way] {
+        // The rest of an act stands behind the quick condition and behind any other, so that the first goes straight on.
+        macro_rules! tested {
+            ($holds:ident, $rest:block) => {{
+                let at = ask!(EXPR);
+                if let Some($holds) = quick_worth(run, at) {
+                    $rest
+                }
+                cold_path();
+                match worth(run, at) {
+                    Ok($holds) => $rest,
+                    Err(number) => stop!(number as u8),
+                }
+            }};
+        }
+        match run.map[ACT][way] {
             CELL_ADD => set!(i32::wrapping_add),
             CELL_SUB => set!(i32::wrapping_sub),
             CELL_XOR => set!(|held, change| held ^ change),
             ENTRY => {
-                let (index, next) = answered!(operand(tables, cells, ask!(EXPR)));
-                let Some(cell) = cell_at(tables, ask!(SECOND), index) else {
-                    break 33;
-                };
-                let (change, _) = answered!(operand(tables, cells, next));
-                let held = &mut cells[cell];
-                *held = match ask!(FIRST) {
+                let (change, cell) = entry_change(run, ask!(SECOND), ask!(EXPR));
+                if cell == NOWHERE {
+                    stop!(change as u8);
+                }
+                let operator = ask!(FIRST);
+                let held = &mut run.cells[cell];
+                *held = match operator {
                     0 => held.wrapping_add(change),
                     1 => held.wrapping_sub(change),
                     _ => *held ^ change,
@@ -114,7 +131,7 @@ fn steps(tables: &Tables, place: &mut Place, cells: &mut Cells, mut left: u32) -
             }
             GO_IN => {
                 if calls >= MAX_CALLS {
-                    break 34;
+                    stop!(34);
                 }
                 calls += 1;
                 push!(CALLED, way % MAX_RECORDS);
@@ -122,48 +139,51 @@ fn steps(tables: &Tables, place: &mut Place, cells: &mut Cells, mut left: u32) -
             }
             OUT_DOWN => leave!(0),
             OUT_UP => leave!(MAX_RECORDS),
-            ON_IF => {
-                if answered!(worth(tables, cells, ask!(EXPR))) {
+            ON_IF => tested!(holds, {
+                if holds {
                     push!(TRUE, ask!(HEAD));
                     go!(way, yes)
                 } else {
                     push!(FALSE, ask!(HEAD));
                     go!(way, ask!(NO))
                 }
-            }
-            ON_FI => {
-                let holds = answered!(worth(tables, cells, ask!(EXPR)));
-                if (kinds[count.wrapping_sub(1)] == TRUE) != holds {
-                    break 31;
+            }),
+            ON_FI => tested!(holds, {
+                if (run.kinds[count.wrapping_sub(1)] == TRUE) != holds {
+                    stop!(31);
                 }
                 pop!();
                 go!(way, yes)
-            }
-            ON_FROM => {
-                let holds = answered!(worth(tables, cells, ask!(EXPR)));
+            }),
+            ON_FROM => tested!(holds, {
                 let top = count.wrapping_sub(1);
-                let again = top < kinds.len()
-                    && kinds[top] == IN_LOOP
-                    && usize::from(labels[top]) == ask!(HEAD);
-                if again == holds {
-                    break 31;
-                }
+                let again = top < run.kinds.len()
+                    && run.kinds[top] == IN_LOOP
+                    && usize::from(run.labels[top]) == ask!(HEAD);
                 if again {
-                    kinds[top] = IN_DO;
-                } else {
-                    push!(IN_DO, ask!(HEAD));
+                    if holds {
+                        stop!(31);
+                    }
+                    run.kinds[top] = IN_DO;
+                    go!(way, yes)
                 }
+                if !holds {
+                    stop!(31);
+                }
+                push!(IN_DO, ask!(HEAD));
                 go!(way, yes)
-            }
-            ON_UNTIL => {
-                if answered!(worth(tables, cells, ask!(EXPR))) {
+            }),
+            ON_UNTIL => tested!(holds, {
+                if holds {
                     pop!();
                     go!(way, yes)
                 } else {
-                    kinds[count.wrapping_sub(1)] = IN_LOOP;
+                    run.kinds[count.wrapping_sub(1)] = IN_LOOP;
                     go!(way, ask!(NO))
                 }
-            }
+            }),
+            // No record has this act. A way that is no u16 keeps the others in full registers.
+            0 => go!(way, count),
             _ => go!(way, yes),
         }
     };

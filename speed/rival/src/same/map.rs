@@ -1,6 +1,7 @@
 //! What a run asks of a checked file, made once: the file with zeros behind, the map by way, the arrays.
 
 use crate::check::*;
+use crate::machine::MAX_FRAMES;
 use crate::table::{rows, Row, BODY, DOWN, KIND, MATE, MID};
 
 /// Room for the file, and for what is read behind a position that was tested.
@@ -37,17 +38,20 @@ pub const GO_ON: u16 = 13;
 
 pub type Map = [[u16; WAYS]; 7];
 
-/// The file comes first, so that one address serves all.
+/// All that a run reads and writes behind one address; the file comes first, since it is asked most.
 #[repr(C)]
-pub struct Tables {
+pub struct Run {
     pub file: [u8; FILE_ROOM],
     pub map: Map,
     /// 16 starts, then 16 lengths.
     pub arrays: [u16; 32],
+    pub cells: [i32; 2048],
+    pub kinds: [u16; MAX_FRAMES],
+    pub labels: [u16; MAX_FRAMES],
 }
 
 pub struct Program {
-    pub tables: Box<Tables>,
+    pub run: Box<Run>,
     pub cells: usize,
 }
 
@@ -55,20 +59,23 @@ impl Program {
     pub fn new(bytes: &[u8]) -> Result<Program, Fault> {
         let records = check(bytes)?;
         let (scalars, lengths) = declared(bytes, &records[0]);
-        let mut tables = Box::new(Tables {
+        let mut run = Box::new(Run {
             file: [0; FILE_ROOM],
             map: [[0; WAYS]; 7],
             arrays: [0; 32],
+            cells: [0; 2048],
+            kinds: [0; MAX_FRAMES],
+            labels: [0; MAX_FRAMES],
         });
         let mut cells = scalars;
         for (array, length) in lengths.into_iter().enumerate() {
-            (tables.arrays[array], tables.arrays[array + 16]) = (cells, length);
+            (run.arrays[array], run.arrays[array + 16]) = (cells, length);
             cells += length;
         }
-        tables.file[..bytes.len()].copy_from_slice(bytes);
-        tell_map(&mut tables.map, bytes, &rows(bytes, &records));
+        run.file[..bytes.len()].copy_from_slice(bytes);
+        tell_map(&mut run.map, bytes, &rows(bytes, &records));
         Ok(Program {
-            tables,
+            run,
             cells: usize::from(cells),
         })
     }

@@ -1,9 +1,7 @@
 //! Expressions, evaluated on the file's bytes: the value and where the expression ends, in two registers.
 
-use super::map::Tables;
+use super::map::Run;
 use std::hint::cold_path;
-
-pub type Cells = [i32; 2048];
 
 /// No expression begins here or behind.
 const END: usize = 32_768;
@@ -16,6 +14,11 @@ pub type Told = (i32, usize);
 
 /// No expression ends at the beginning of the file.
 const REFUSED: usize = 0;
+
+const BAD_INDEX: Told = (33, REFUSED);
+
+/// No cell has this number.
+pub const NOWHERE: usize = 131_072;
 
 /// The same, where it is inlined: a leaf is then never tested for a refusal.
 pub type Answer = Result<Told, i32>;
@@ -31,169 +34,246 @@ fn answer((value, next): Told) -> Answer {
     }
 }
 
+/// Bytes read as one, so that a number is tested as one.
 #[inline(always)]
-fn two(tables: &Tables, at: usize) -> usize {
-    usize::from(u16::from_le_bytes([tables.file[at], tables.file[at + 1]]))
+fn bytes<const N: usize>(run: &Run, at: usize) -> [u8; N] {
+    *run.file[at..].first_chunk().expect("room behind")
 }
 
 #[inline(always)]
-fn constant(tables: &Tables, at: usize) -> i32 {
-    let file = &tables.file;
-    i32::from_le_bytes([file[at], file[at + 1], file[at + 2], file[at + 3]])
+fn two(run: &Run, at: usize) -> usize {
+    usize::from(u16::from_le_bytes(bytes(run, at)))
 }
 
 #[inline(always)]
-fn scalar(tables: &Tables, cells: &Cells, at: usize) -> i32 {
-    cells[two(tables, at)]
+fn constant(run: &Run, at: usize) -> i32 {
+    i32::from_le_bytes(bytes(run, at))
+}
+
+/// A cell, 0 past the end: a panic would need a frame of its own in whoever asks.
+#[inline(always)]
+fn cell(run: &Run, number: usize) -> i32 {
+    match run.cells.get(number) {
+        Some(cell) => *cell,
+        None => {
+            cold_path();
+            0
+        }
+    }
+}
+
+#[inline(always)]
+fn scalar(run: &Run, at: usize) -> i32 {
+    cell(run, two(run, at))
 }
 
 /// A constant or a scalar; the position leaves room for it.
 #[inline(always)]
-fn leaf(tables: &Tables, cells: &Cells, at: usize) -> Option<Told> {
-    match tables.file[at] {
-        1 => Some((scalar(tables, cells, at + 1), at + 3)),
-        0 => Some((constant(tables, at + 1), at + 5)),
+fn leaf(run: &Run, at: usize) -> Option<Told> {
+    match run.file[at] {
+        1 => Some((scalar(run, at + 1), at + 3)),
+        0 => Some((constant(run, at + 1), at + 5)),
         _ => None,
     }
 }
 
 /// A scalar and a constant or scalar under an operator that an index is made of; the position leaves room for it.
 #[inline(always)]
-fn pair(tables: &Tables, cells: &Cells, at: usize) -> Option<Told> {
-    let file = &tables.file;
+fn pair(run: &Run, at: usize) -> Option<Told> {
+    let file = &run.file;
     if file[at] != 3 || file[at + 2] != 1 {
         return None;
     }
-    let (right, next) = leaf(tables, cells, at + 5)?;
-    let left = scalar(tables, cells, at + 3);
+    let (right, next) = leaf(run, at + 5)?;
+    let left = scalar(run, at + 3);
     Some((simple(file[at + 1], left, right)?, next))
 }
 
-/// The cell of an array at an index: number, index and cell are tested.
+/// The cell of an array at an index: number and index are tested here, the cell where it is used.
 #[inline(always)]
-pub fn cell_at(tables: &Tables, array: usize, index: i32) -> Option<usize> {
-    let length = usize::from(tables.arrays[array + 16]);
+fn cell_at(run: &Run, array: usize, index: i32) -> Option<usize> {
+    let length = usize::from(*run.arrays.get(array + 16)?);
     let index = index as u32 as usize;
-    (index < length).then(|| usize::from(tables.arrays[array]) + index)
+    (index < length).then(|| usize::from(run.arrays[array]) + index)
 }
 
-/// The array read at a position, with its index and where that ends.
+/// The array read at a position, with its index; none refuses it.
 #[inline(always)]
-fn held(tables: &Tables, cells: &Cells, at: usize, (index, next): Told) -> Told {
-    match cell_at(tables, two(tables, at + 1), index) {
-        Some(cell) => (cells[cell], next),
+fn held(run: &Run, at: usize, index: i32) -> Option<i32> {
+    match cell_at(run, two(run, at + 1), index) {
+        Some(number) => Some(cell(run, number)),
         None => {
             cold_path();
-            (33, REFUSED)
+            None
         }
     }
 }
 
 /// What an expression is worth; a constant or a scalar needs no call.
 #[inline(always)]
-pub fn operand(tables: &Tables, cells: &Cells, at: usize) -> Answer {
-    assert!(at < END);
-    match tables.file[at] {
-        0 => Ok((constant(tables, at + 1), at + 5)),
-        1 => Ok((scalar(tables, cells, at + 1), at + 3)),
-        _ => answer(value(tables, cells, at)),
+pub fn operand(run: &Run, at: usize) -> Answer {
+    if at >= END {
+        cold_path();
+        return Ok((0, at));
+    }
+    match run.file[at] {
+        0 => Ok((constant(run, at + 1), at + 5)),
+        1 => Ok((scalar(run, at + 1), at + 3)),
+        _ => answer(value(run, at)),
     }
 }
 
-/// The same of an operator or an array read: the quick ways.
+/// The same of an operator or an array read: the quick ways. All that needs a frame is called last, so that this has none.
 #[cold]
 #[inline(never)]
-pub fn value(tables: &Tables, cells: &Cells, at: usize) -> Told {
+pub fn value(run: &Run, at: usize) -> Told {
     if at >= QUICK {
-        return deep(tables, cells, at);
+        cold_path();
+        return deep(run, at);
     }
-    if tables.file[at] != 2 {
-        return operated(tables, cells, at);
+    if run.file[at] != 2 {
+        return operated(run, at);
     }
-    match near(tables, cells, at + 3) {
-        Some(index) => held(tables, cells, at, index),
-        None => entry(tables, cells, at),
+    match near(run, at + 3) {
+        Some((index, next)) => match held(run, at, index) {
+            Some(value) => (value, next),
+            None => BAD_INDEX,
+        },
+        None => entry(run, at),
     }
 }
 
 /// A constant, a scalar or a pair.
 #[inline(always)]
-fn near(tables: &Tables, cells: &Cells, at: usize) -> Option<Told> {
-    match leaf(tables, cells, at) {
+fn near(run: &Run, at: usize) -> Option<Told> {
+    match leaf(run, at) {
         Some(told) => Some(told),
-        None => pair(tables, cells, at),
+        None => pair(run, at),
     }
 }
 
 #[inline(always)]
-fn operated(tables: &Tables, cells: &Cells, at: usize) -> Told {
-    let left = match tables.file[at + 2] {
-        1 => (scalar(tables, cells, at + 3), at + 5),
-        0 => (constant(tables, at + 3), at + 7),
-        2 => match near(tables, cells, at + 5) {
-            Some(index) => {
-                let left = held(tables, cells, at + 2, index);
-                if left.1 == REFUSED {
-                    return left;
-                }
-                left
-            }
-            None => return deep(tables, cells, at),
-        },
-        _ => match pair(tables, cells, at + 2) {
+fn operated(run: &Run, at: usize) -> Told {
+    let first = run.file[at + 2];
+    let (left, middle) = if first == 1 {
+        (scalar(run, at + 3), at + 5)
+    } else if first == 2 {
+        let Some((index, middle)) = near(run, at + 5) else {
+            return entry_first(run, at);
+        };
+        match held(run, at + 2, index) {
+            Some(left) => (left, middle),
+            None => return BAD_INDEX,
+        }
+    } else if first == 0 {
+        (constant(run, at + 3), at + 7)
+    } else {
+        match pair(run, at + 2) {
             Some(left) => left,
-            None => return deep(tables, cells, at),
-        },
+            None => return deep(run, at),
+        }
     };
-    let (left, middle) = left;
-    match leaf(tables, cells, middle) {
-        Some((right, next)) => apply(tables.file[at + 1], left, right, next),
-        None => deep(tables, cells, at),
+    match leaf(run, middle) {
+        Some((right, next)) => apply(run.file[at + 1], left, right, next),
+        None => right_last(run, at, left, middle),
+    }
+}
+
+/// An operator whose right side needs a call.
+#[inline(never)]
+fn right_last(run: &Run, at: usize, left: i32, middle: usize) -> Told {
+    let operator = run.file[at + 1];
+    let (right, next) = value(run, middle);
+    if next == REFUSED {
+        return (right, REFUSED);
+    }
+    apply(operator, left, right, next)
+}
+
+/// An operator whose left side is an array read that needs a call.
+#[inline(never)]
+fn entry_first(run: &Run, at: usize) -> Told {
+    let (left, middle) = entry(run, at + 2);
+    if middle == REFUSED {
+        return (left, REFUSED);
+    }
+    match operand(run, middle) {
+        Ok((right, next)) => apply(run.file[at + 1], left, right, next),
+        Err(number) => (number, REFUSED),
     }
 }
 
 /// An array read whose index needs a call.
 #[inline(never)]
-fn entry(tables: &Tables, cells: &Cells, at: usize) -> Told {
-    assert!(at < END);
-    match operand(tables, cells, at + 3) {
-        Ok(index) => held(tables, cells, at, index),
-        Err(number) => (number, REFUSED),
+fn entry(run: &Run, at: usize) -> Told {
+    let (index, next) = match operand(run, at + 3) {
+        Ok(told) => told,
+        Err(number) => return (number, REFUSED),
+    };
+    match held(run, at, index) {
+        Some(value) => (value, next),
+        None => BAD_INDEX,
     }
 }
 
 /// Any expression, with no quick way.
 #[inline(never)]
-fn deep(tables: &Tables, cells: &Cells, at: usize) -> Told {
-    assert!(at < END);
-    if tables.file[at] == 2 {
-        return entry(tables, cells, at);
+fn deep(run: &Run, at: usize) -> Told {
+    if at >= END {
+        return (0, at);
     }
-    let (left, middle) = match operand(tables, cells, at + 2) {
+    if run.file[at] == 2 {
+        return entry(run, at);
+    }
+    let (left, middle) = match operand(run, at + 2) {
         Ok(told) => told,
         Err(number) => return (number, REFUSED),
     };
-    let (right, next) = match operand(tables, cells, middle) {
-        Ok(told) => told,
-        Err(number) => return (number, REFUSED),
-    };
-    apply(tables.file[at + 1], left, right, next)
+    match operand(run, middle) {
+        Ok((right, next)) => apply(run.file[at + 1], left, right, next),
+        Err(number) => (number, REFUSED),
+    }
 }
 
-/// Whether a condition holds: a comparison of a scalar with a constant needs no call.
+/// Whether a condition holds, where it compares a scalar with a constant.
 #[inline(always)]
-pub fn worth(tables: &Tables, cells: &Cells, at: usize) -> Result<bool, i32> {
-    let file = &tables.file;
-    if at < QUICK && file[at] == 3 {
-        let operator = file[at + 1];
-        if file[at + 2] == 1 && file[at + 5] == 0 && (10..16).contains(&operator) {
-            let left = scalar(tables, cells, at + 3);
-            return Ok(compared(operator, left, constant(tables, at + 6)));
-        }
+pub fn quick_worth(run: &Run, at: usize) -> Option<bool> {
+    if at >= QUICK {
+        cold_path();
+        return None;
     }
-    match operand(tables, cells, at) {
+    let operator = run.file[at + 1];
+    let is_quick = run.file[at] == 3
+        && run.file[at + 2] == 1
+        && run.file[at + 5] == 0
+        && (10..16).contains(&operator);
+    is_quick.then(|| compared(operator, scalar(run, at + 3), constant(run, at + 6)))
+}
+
+/// Any condition: whether it holds, or the number that refuses it.
+#[inline(always)]
+pub fn worth(run: &Run, at: usize) -> Result<bool, i32> {
+    match operand(run, at) {
         Ok((value, _)) => Ok(value != 0),
         Err(number) => Err(number),
+    }
+}
+
+/// The cell that a SET of an entry changes and by what: its index, then its expression. Or no cell, and the number that refuses.
+#[cold]
+#[inline(never)]
+pub fn entry_change(run: &Run, array: usize, at: usize) -> (i32, usize) {
+    let (index, next) = match operand(run, at) {
+        Ok(told) => told,
+        Err(number) => return (number, NOWHERE),
+    };
+    let Some(cell) = cell_at(run, array, index) else {
+        cold_path();
+        return (33, NOWHERE);
+    };
+    match operand(run, next) {
+        Ok((change, _)) => (change, cell),
+        Err(number) => (number, NOWHERE),
     }
 }
 
