@@ -1,7 +1,7 @@
 //! The run: one place moved in place, one record a turn.
 
 use super::map::*;
-use super::value::{entry_change, operand, quick_worth, worth, NOWHERE};
+use super::value::{comparison, entry_change, operand, value, NOWHERE, REFUSED};
 use crate::check::MAX_RECORDS;
 use crate::machine::Place;
 use std::hint::cold_path;
@@ -34,10 +34,6 @@ fn steps(run: &mut Run, place: &mut Place, mut left: u32) -> (u32, u8) {
     let reason = loop {
         if left == 0 {
             break 0;
-        }
-        if way >= WAYS {
-            cold_path();
-            break 21;
         }
         macro_rules! ask {
             ($section:expr) => {
@@ -97,18 +93,21 @@ fn steps(run: &mut Run, place: &mut Place, mut left: u32) -> (u32, u8) {
                 go!(label, usize::from(run.map[YES][label + $side]))
             }};
         }
-        // The rest of an act stands behind the quick condition and behind any other, so that the first goes straight on.
+        // Whether a condition holds: by the bit of a comparison; any other is called for.
         macro_rules! tested {
-            ($holds:ident, $rest:block) => {{
+            () => {{
                 let at = ask!(EXPR);
-                if let Some($holds) = quick_worth(run, at) {
-                    $rest
-                }
-                cold_path();
-                match worth(run, at) {
-                    Ok($holds) => $rest,
-                    Err(number) => stop!(number as u8),
-                }
+                let (holds, bit) = match comparison(run, at) {
+                    Some(told) => told,
+                    None => {
+                        cold_path();
+                        match value(run, at) {
+                            (number, REFUSED) => stop!(number as u8),
+                            (value, _) => (u32::from(value != 0), 0),
+                        }
+                    }
+                };
+                (holds >> (bit & 31)) & 1 != 0
             }};
         }
         match run.map[ACT][way] {
@@ -139,28 +138,30 @@ fn steps(run: &mut Run, place: &mut Place, mut left: u32) -> (u32, u8) {
             }
             OUT_DOWN => leave!(0),
             OUT_UP => leave!(MAX_RECORDS),
-            ON_IF => tested!(holds, {
-                if holds {
+            ON_IF => {
+                if tested!() {
                     push!(TRUE, ask!(HEAD));
                     go!(way, yes)
                 } else {
                     push!(FALSE, ask!(HEAD));
                     go!(way, ask!(NO))
                 }
-            }),
-            ON_FI => tested!(holds, {
+            }
+            ON_FI => {
+                let holds = tested!();
                 if (run.kinds[count.wrapping_sub(1)] == TRUE) != holds {
                     stop!(31);
                 }
                 pop!();
                 go!(way, yes)
-            }),
-            ON_FROM => tested!(holds, {
+            }
+            ON_FROM => {
+                let holds = tested!();
                 let top = count.wrapping_sub(1);
-                let again = top < run.kinds.len()
+                if top < run.kinds.len()
                     && run.kinds[top] == IN_LOOP
-                    && usize::from(run.labels[top]) == ask!(HEAD);
-                if again {
+                    && usize::from(run.labels[top]) == ask!(HEAD)
+                {
                     if holds {
                         stop!(31);
                     }
@@ -172,16 +173,16 @@ fn steps(run: &mut Run, place: &mut Place, mut left: u32) -> (u32, u8) {
                 }
                 push!(IN_DO, ask!(HEAD));
                 go!(way, yes)
-            }),
-            ON_UNTIL => tested!(holds, {
-                if holds {
+            }
+            ON_UNTIL => {
+                if tested!() {
                     pop!();
                     go!(way, yes)
                 } else {
                     run.kinds[count.wrapping_sub(1)] = IN_LOOP;
                     go!(way, ask!(NO))
                 }
-            }),
+            }
             // No record has this act. A way that is no u16 keeps the others in full registers.
             0 => go!(way, count),
             _ => go!(way, yes),

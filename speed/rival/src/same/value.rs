@@ -13,7 +13,7 @@ const QUICK: usize = 32_736;
 pub type Told = (i32, usize);
 
 /// No expression ends at the beginning of the file.
-const REFUSED: usize = 0;
+pub const REFUSED: usize = 0;
 
 const BAD_INDEX: Told = (33, REFUSED);
 
@@ -112,13 +112,10 @@ fn held(run: &Run, at: usize, index: i32) -> Option<i32> {
 /// What an expression is worth; a constant or a scalar needs no call.
 #[inline(always)]
 pub fn operand(run: &Run, at: usize) -> Answer {
-    if at >= END {
-        cold_path();
-        return Ok((0, at));
-    }
+    assert!(at < END);
     match run.file[at] {
         0 => Ok((constant(run, at + 1), at + 5)),
-        1 => Ok((scalar(run, at + 1), at + 3)),
+        1 => Ok((run.cells[two(run, at + 1)], at + 3)),
         _ => answer(value(run, at)),
     }
 }
@@ -131,8 +128,10 @@ pub fn value(run: &Run, at: usize) -> Told {
         cold_path();
         return deep(run, at);
     }
-    if run.file[at] != 2 {
-        return operated(run, at);
+    match run.file[at] {
+        3 => return operated(run, at),
+        2 => {}
+        _ => return deep(run, at),
     }
     match near(run, at + 3) {
         Some((index, next)) => match held(run, at, index) {
@@ -222,8 +221,11 @@ fn deep(run: &Run, at: usize) -> Told {
     if at >= END {
         return (0, at);
     }
-    if run.file[at] == 2 {
-        return entry(run, at);
+    match run.file[at] {
+        0 => return (constant(run, at + 1), at + 5),
+        1 => return (scalar(run, at + 1), at + 3),
+        2 => return entry(run, at),
+        _ => {}
     }
     let (left, middle) = match operand(run, at + 2) {
         Ok(told) => told,
@@ -235,27 +237,34 @@ fn deep(run: &Run, at: usize) -> Told {
     }
 }
 
-/// Whether a condition holds, where it compares a scalar with a constant.
+/// A scalar compared with a constant: which comparisons hold, and the bit of the one that is asked. Numbers turned so that one
+/// test tells the operator and that it compares, another the scalar, that it is one, and the constant behind it.
 #[inline(always)]
-pub fn quick_worth(run: &Run, at: usize) -> Option<bool> {
+pub fn comparison(run: &Run, at: usize) -> Option<(u32, u32)> {
     if at >= QUICK {
         cold_path();
         return None;
     }
-    let operator = run.file[at + 1];
-    let is_quick = run.file[at] == 3
-        && run.file[at + 2] == 1
-        && run.file[at + 5] == 0
-        && (10..16).contains(&operator);
-    is_quick.then(|| compared(operator, scalar(run, at + 3), constant(run, at + 6)))
+    let head = u16::from_le_bytes(bytes(run, at));
+    let operator = head.wrapping_sub(0x0A03).rotate_right(8);
+    if operator > 5 {
+        cold_path();
+        return None;
+    }
+    let sides = u32::from_le_bytes(bytes(run, at + 2));
+    let number = sides.wrapping_sub(1).rotate_right(8);
+    let left = run.cells.get(number as usize)?;
+    Some((comparisons(*left, constant(run, at + 6)), operator.into()))
 }
 
-/// Any condition: whether it holds, or the number that refuses it.
+/// Which comparisons hold: the bits 0 to 5 are `< > = != <= >=`.
 #[inline(always)]
-pub fn worth(run: &Run, at: usize) -> Result<bool, i32> {
-    match operand(run, at) {
-        Ok((value, _)) => Ok(value != 0),
-        Err(number) => Err(number),
+fn comparisons(left: i32, right: i32) -> u32 {
+    let equal_or_more = if left == right { 52 } else { 42 };
+    if left < right {
+        25
+    } else {
+        equal_or_more
     }
 }
 
@@ -275,14 +284,6 @@ pub fn entry_change(run: &Run, array: usize, at: usize) -> (i32, usize) {
         Ok((change, _)) => (change, cell),
         Err(number) => (number, NOWHERE),
     }
-}
-
-/// By the bits of the comparisons that hold: 10 to 15 are `< > = != <= >=`.
-#[inline(always)]
-fn compared(operator: u8, left: i32, right: i32) -> bool {
-    let equal_or_more = if left == right { 53_248 } else { 43_008 };
-    let holds: u32 = if left < right { 25_600 } else { equal_or_more };
-    (holds >> (operator & 31)) & 1 != 0
 }
 
 /// An operator that an index is made of.
