@@ -1,7 +1,7 @@
 //! The run: one place moved in place, one record a turn.
 
 use super::map::*;
-use super::value::{comparison, entry_change, operand, value, NOWHERE, REFUSED};
+use super::value::{comparison, entry_change, known, value, REFUSED};
 use crate::check::MAX_RECORDS;
 use crate::machine::Place;
 use std::hint::cold_path;
@@ -70,13 +70,25 @@ fn steps(run: &mut Run, place: &mut Place, mut left: u32) -> (u32, u8) {
         }
         macro_rules! set {
             ($by:expr) => {{
-                let change = match operand(run, ask!(EXPR)) {
-                    Ok((change, _)) => change,
-                    Err(number) => stop!(number as u8),
-                };
-                let held = &mut run.cells[ask!(SECOND)];
-                *held = $by(*held, change);
-                go!(way, yes)
+                let at = ask!(EXPR);
+                macro_rules! by {
+                    ($change:expr) => {{
+                        let change = $change;
+                        let held = &mut run.cells[ask!(SECOND)];
+                        *held = $by(*held, change);
+                        go!(way, yes)
+                    }};
+                }
+                match known(run, at) {
+                    (1, change) => by!(change),
+                    (0, change) => by!(change),
+                    _ => {}
+                }
+                cold_path();
+                match value(run, at) {
+                    (number, REFUSED) => stop!(number as u8),
+                    (change, _) => by!(change),
+                }
             }};
         }
         macro_rules! leave {
@@ -85,9 +97,7 @@ fn steps(run: &mut Run, place: &mut Place, mut left: u32) -> (u32, u8) {
                     stop!(30);
                 }
                 let label = usize::from(run.labels[count.wrapping_sub(1)]);
-                if label >= MAX_RECORDS {
-                    stop!(21);
-                }
+                assert!(label < MAX_RECORDS);
                 calls -= 1;
                 pop!();
                 go!(label, usize::from(run.map[YES][label + $side]))
@@ -116,11 +126,10 @@ fn steps(run: &mut Run, place: &mut Place, mut left: u32) -> (u32, u8) {
             CELL_XOR => set!(|held, change| held ^ change),
             ENTRY => {
                 let (change, cell) = entry_change(run, ask!(SECOND), ask!(EXPR));
-                if cell == NOWHERE {
-                    stop!(change as u8);
-                }
                 let operator = ask!(FIRST);
-                let held = &mut run.cells[cell];
+                let Some(held) = run.cells.get_mut(cell) else {
+                    stop!(change as u8);
+                };
                 *held = match operator {
                     0 => held.wrapping_add(change),
                     1 => held.wrapping_sub(change),

@@ -120,6 +120,17 @@ pub fn operand(run: &Run, at: usize) -> Answer {
     }
 }
 
+/// The first byte of an expression, and what it is worth where it is a constant or a scalar.
+#[inline(always)]
+pub fn known(run: &Run, at: usize) -> (u8, i32) {
+    assert!(at < END);
+    match run.file[at] {
+        1 => (1, run.cells[two(run, at + 1)]),
+        0 => (0, constant(run, at + 1)),
+        tag => (tag, 0),
+    }
+}
+
 /// The same of an operator or an array read: the quick ways. All that needs a frame is called last, so that this has none.
 #[cold]
 #[inline(never)]
