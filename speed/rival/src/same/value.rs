@@ -139,10 +139,13 @@ pub fn value(run: &Run, at: usize) -> Told {
         cold_path();
         return deep(run, at);
     }
-    match run.file[at] {
-        3 => return operated(run, at),
-        2 => {}
-        _ => return deep(run, at),
+    let tag = run.file[at];
+    if tag > 2 {
+        return operated(run, at);
+    }
+    if tag < 2 {
+        cold_path();
+        return deep(run, at);
     }
     match near(run, at + 3) {
         Some((index, next)) => match held(run, at, index) {
@@ -165,22 +168,23 @@ fn near(run: &Run, at: usize) -> Option<Told> {
 #[inline(always)]
 fn operated(run: &Run, at: usize) -> Told {
     let first = run.file[at + 2];
-    let (left, middle) = if first == 1 {
-        (scalar(run, at + 3), at + 5)
-    } else if first == 2 {
+    let (left, middle) = if first < 2 {
+        match first {
+            0 => (constant(run, at + 3), at + 7),
+            _ => (scalar(run, at + 3), at + 5),
+        }
+    } else if first > 2 {
+        match pair(run, at + 2) {
+            Some(left) => left,
+            None => return deep(run, at),
+        }
+    } else {
         let Some((index, middle)) = near(run, at + 5) else {
             return entry_first(run, at);
         };
         match held(run, at + 2, index) {
             Some(left) => (left, middle),
             None => return BAD_INDEX,
-        }
-    } else if first == 0 {
-        (constant(run, at + 3), at + 7)
-    } else {
-        match pair(run, at + 2) {
-            Some(left) => left,
-            None => return deep(run, at),
         }
     };
     match leaf(run, middle) {
@@ -280,18 +284,42 @@ fn comparisons(left: i32, right: i32) -> u32 {
 }
 
 /// The cell that a SET of an entry changes and by what: its index, then its expression. Or no cell, and the number that refuses.
-#[cold]
 #[inline(never)]
 pub fn entry_change(run: &Run, array: usize, at: usize) -> (i32, usize) {
-    let (index, next) = match operand(run, at) {
-        Ok(told) => told,
-        Err(number) => return (number, NOWHERE),
+    if at >= QUICK {
+        cold_path();
+        return index_first(run, array, at);
+    }
+    let Some((index, next)) = near(run, at) else {
+        return index_first(run, array, at);
     };
     let Some(cell) = cell_at(run, array, index) else {
         cold_path();
         return (33, NOWHERE);
     };
-    match operand(run, next) {
+    match leaf(run, next) {
+        Some((change, _)) => (change, cell),
+        None => change_last(run, next, cell),
+    }
+}
+
+/// The same where the index needs a call.
+#[inline(never)]
+fn index_first(run: &Run, array: usize, at: usize) -> (i32, usize) {
+    let (index, next) = match operand(run, at) {
+        Ok(told) => told,
+        Err(number) => return (number, NOWHERE),
+    };
+    match cell_at(run, array, index) {
+        Some(cell) => change_last(run, next, cell),
+        None => (33, NOWHERE),
+    }
+}
+
+/// The same where the expression needs one.
+#[inline(never)]
+fn change_last(run: &Run, at: usize, cell: usize) -> (i32, usize) {
+    match operand(run, at) {
         Ok((change, _)) => (change, cell),
         Err(number) => (number, NOWHERE),
     }
