@@ -6,7 +6,8 @@ use crate::check::MAX_RECORDS;
 use crate::machine::Place;
 use std::hint::cold_path;
 
-const MAX_CALLS: usize = 64;
+/// A call counts for so much that 64 of them fit a u32 and 65 do not: what overflows is refused.
+const CALL: u32 = u32::MAX / 65 + 1;
 
 const TRUE: u16 = 0;
 const FALSE: u16 = 1;
@@ -27,7 +28,7 @@ pub fn run(program: &mut Program, place: &mut Place, store: &mut [i32; 2048], n:
 #[inline(never)]
 fn steps(run: &mut Run, place: &mut Place, mut left: u32) -> (u32, u8) {
     let is_call = |kind: &&u16| **kind == CALLED;
-    let mut calls = run.kinds[..place.count].iter().filter(is_call).count();
+    let mut calls = CALL * run.kinds[..place.count].iter().filter(is_call).count() as u32;
     let mut way = usize::from(place.b) + MAX_RECORDS * place.direction;
     let mut a = usize::from(place.a);
     let mut count = place.count;
@@ -93,12 +94,12 @@ fn steps(run: &mut Run, place: &mut Place, mut left: u32) -> (u32, u8) {
         }
         macro_rules! leave {
             ($side:expr) => {{
-                if calls == 0 {
+                let Some(fewer) = calls.checked_sub(CALL) else {
                     stop!(30);
-                }
+                };
                 let label = usize::from(run.labels[count.wrapping_sub(1)]);
                 assert!(label < MAX_RECORDS);
-                calls -= 1;
+                calls = fewer;
                 pop!();
                 go!(label, usize::from(run.map[YES][label + $side]))
             }};
@@ -138,10 +139,10 @@ fn steps(run: &mut Run, place: &mut Place, mut left: u32) -> (u32, u8) {
                 go!(way, yes)
             }
             GO_IN => {
-                if calls >= MAX_CALLS {
+                let Some(more) = calls.checked_add(CALL) else {
                     stop!(34);
-                }
-                calls += 1;
+                };
+                calls = more;
                 push!(CALLED, way % MAX_RECORDS);
                 go!(ask!(FIRST), ask!(SECOND))
             }
@@ -165,19 +166,18 @@ fn steps(run: &mut Run, place: &mut Place, mut left: u32) -> (u32, u8) {
                 go!(way, yes)
             }
             ON_FROM => {
-                let holds = tested!();
                 let top = count.wrapping_sub(1);
                 if top < run.kinds.len()
                     && run.kinds[top] == IN_LOOP
                     && usize::from(run.labels[top]) == ask!(HEAD)
                 {
-                    if holds {
+                    if tested!() {
                         stop!(31);
                     }
                     run.kinds[top] = IN_DO;
                     go!(way, yes)
                 }
-                if !holds {
+                if !tested!() {
                     stop!(31);
                 }
                 push!(IN_DO, ask!(HEAD));

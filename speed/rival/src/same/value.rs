@@ -260,16 +260,16 @@ pub fn comparison(run: &Run, at: usize) -> Option<(u32, u32)> {
         cold_path();
         return None;
     }
-    let head = u16::from_le_bytes(bytes(run, at));
+    let head = u32::from(u16::from_le_bytes(bytes(run, at)));
     let operator = head.wrapping_sub(0x0A03).rotate_right(8);
     if operator > 5 {
         cold_path();
         return None;
     }
-    let sides = u32::from_le_bytes(bytes(run, at + 2));
+    let sides = u64::from(u32::from_le_bytes(bytes(run, at + 2)));
     let number = sides.wrapping_sub(1).rotate_right(8);
     let left = run.cells.get(number as usize)?;
-    Some((comparisons(*left, constant(run, at + 6)), operator.into()))
+    Some((comparisons(*left, constant(run, at + 6)), operator))
 }
 
 /// Which comparisons hold: the bits 0 to 5 are `< > = != <= >=`.
