@@ -1,7 +1,7 @@
 //! The run: one place moved in place, one record a turn.
 
 use super::map::*;
-use super::value::{comparison, entry_change, known, value, REFUSED};
+use super::value::{apart, comparison, entry_change, known, value, REFUSED};
 use crate::check::MAX_RECORDS;
 use crate::machine::Place;
 use std::hint::cold_path;
@@ -126,7 +126,7 @@ fn steps(run: &mut Run, place: &mut Place, mut left: u32) -> (u32, u8) {
             CELL_SUB => set!(i32::wrapping_sub),
             CELL_XOR => set!(|held, change| held ^ change),
             ENTRY => {
-                let (change, cell) = entry_change(run, ask!(SECOND), ask!(EXPR));
+                let (change, cell) = apart(entry_change(run, ask!(SECOND), ask!(EXPR)));
                 let operator = ask!(FIRST);
                 let Some(held) = run.cells.get_mut(cell) else {
                     stop!(change as u8);

@@ -15,6 +15,19 @@ pub type Told = (i32, usize);
 /// No expression ends at the beginning of the file.
 pub const REFUSED: usize = 0;
 
+/// The same in one number of two registers, as a call gives it: what is called last then needs no frame here.
+pub type Both = u128;
+
+#[inline(always)]
+const fn both(value: i32, next: usize) -> Both {
+    value as u32 as u128 | (next as u128) << 64
+}
+
+#[inline(always)]
+pub const fn apart(both: Both) -> Told {
+    (both as u32 as i32, (both >> 64) as usize)
+}
+
 const BAD_INDEX: Told = (33, REFUSED);
 
 /// No cell has this number.
@@ -71,9 +84,15 @@ fn scalar(run: &Run, at: usize) -> i32 {
 #[inline(always)]
 fn leaf(run: &Run, at: usize) -> Option<Told> {
     match run.file[at] {
-        1 => Some((scalar(run, at + 1), at + 3)),
         0 => Some((constant(run, at + 1), at + 5)),
-        _ => None,
+        1 => {
+            cold_path();
+            Some((scalar(run, at + 1), at + 3))
+        }
+        _ => {
+            cold_path();
+            None
+        }
     }
 }
 
@@ -159,10 +178,10 @@ pub fn value(run: &Run, at: usize) -> Told {
 /// A constant, a scalar or a pair.
 #[inline(always)]
 fn near(run: &Run, at: usize) -> Option<Told> {
-    match leaf(run, at) {
-        Some(told) => Some(told),
-        None => pair(run, at),
+    if run.file[at] > 1 {
+        return pair(run, at);
     }
+    leaf(run, at)
 }
 
 #[inline(always)]
@@ -285,7 +304,7 @@ fn comparisons(left: i32, right: i32) -> u32 {
 
 /// The cell that a SET of an entry changes and by what: its index, then its expression. Or no cell, and the number that refuses.
 #[inline(never)]
-pub fn entry_change(run: &Run, array: usize, at: usize) -> (i32, usize) {
+pub fn entry_change(run: &Run, array: usize, at: usize) -> Both {
     if at >= QUICK {
         cold_path();
         return index_first(run, array, at);
@@ -295,33 +314,33 @@ pub fn entry_change(run: &Run, array: usize, at: usize) -> (i32, usize) {
     };
     let Some(cell) = cell_at(run, array, index) else {
         cold_path();
-        return (33, NOWHERE);
+        return both(33, NOWHERE);
     };
     match leaf(run, next) {
-        Some((change, _)) => (change, cell),
+        Some((change, _)) => both(change, cell),
         None => change_last(run, next, cell),
     }
 }
 
 /// The same where the index needs a call.
 #[inline(never)]
-fn index_first(run: &Run, array: usize, at: usize) -> (i32, usize) {
+fn index_first(run: &Run, array: usize, at: usize) -> Both {
     let (index, next) = match operand(run, at) {
         Ok(told) => told,
-        Err(number) => return (number, NOWHERE),
+        Err(number) => return both(number, NOWHERE),
     };
     match cell_at(run, array, index) {
         Some(cell) => change_last(run, next, cell),
-        None => (33, NOWHERE),
+        None => both(33, NOWHERE),
     }
 }
 
 /// The same where the expression needs one.
 #[inline(never)]
-fn change_last(run: &Run, at: usize, cell: usize) -> (i32, usize) {
+fn change_last(run: &Run, at: usize, cell: usize) -> Both {
     match operand(run, at) {
-        Ok((change, _)) => (change, cell),
-        Err(number) => (number, NOWHERE),
+        Ok((change, _)) => both(change, cell),
+        Err(number) => both(number, NOWHERE),
     }
 }
 
