@@ -86,7 +86,7 @@ fn steps(run: &mut Run, place: &mut Place, mut left: u32) -> (u32, u8) {
                     _ => {}
                 }
                 cold_path();
-                match value(run, at) {
+                match apart(value(run, at)) {
                     (number, REFUSED) => stop!(number as u8),
                     (change, _) => by!(change),
                 }
@@ -112,7 +112,7 @@ fn steps(run: &mut Run, place: &mut Place, mut left: u32) -> (u32, u8) {
                     Some(told) => told,
                     None => {
                         cold_path();
-                        match value(run, at) {
+                        match apart(value(run, at)) {
                             (number, REFUSED) => stop!(number as u8),
                             (value, _) => (u32::from(value != 0), 0),
                         }

@@ -28,7 +28,7 @@ pub const fn apart(both: Both) -> Told {
     (both as u32 as i32, (both >> 64) as usize)
 }
 
-const BAD_INDEX: Told = (33, REFUSED);
+const BAD_INDEX: Both = both(33, REFUSED);
 
 /// No cell has this number.
 pub const NOWHERE: usize = 131_072;
@@ -135,7 +135,7 @@ pub fn operand(run: &Run, at: usize) -> Answer {
     match run.file[at] {
         0 => Ok((constant(run, at + 1), at + 5)),
         1 => Ok((run.cells[two(run, at + 1)], at + 3)),
-        _ => answer(value(run, at)),
+        _ => answer(apart(value(run, at))),
     }
 }
 
@@ -153,7 +153,7 @@ pub fn known(run: &Run, at: usize) -> (u8, i32) {
 /// The same of an operator or an array read: the quick ways. All that needs a frame is called last, so that this has none.
 #[cold]
 #[inline(never)]
-pub fn value(run: &Run, at: usize) -> Told {
+pub fn value(run: &Run, at: usize) -> Both {
     if at >= QUICK {
         cold_path();
         return deep(run, at);
@@ -168,7 +168,7 @@ pub fn value(run: &Run, at: usize) -> Told {
     }
     match near(run, at + 3) {
         Some((index, next)) => match held(run, at, index) {
-            Some(value) => (value, next),
+            Some(value) => both(value, next),
             None => BAD_INDEX,
         },
         None => entry(run, at),
@@ -185,7 +185,7 @@ fn near(run: &Run, at: usize) -> Option<Told> {
 }
 
 #[inline(always)]
-fn operated(run: &Run, at: usize) -> Told {
+fn operated(run: &Run, at: usize) -> Both {
     let first = run.file[at + 2];
     let (left, middle) = if first < 2 {
         match first {
@@ -214,60 +214,60 @@ fn operated(run: &Run, at: usize) -> Told {
 
 /// An operator whose right side needs a call.
 #[inline(never)]
-fn right_last(run: &Run, at: usize, left: i32, middle: usize) -> Told {
+fn right_last(run: &Run, at: usize, left: i32, middle: usize) -> Both {
     let operator = run.file[at + 1];
-    let (right, next) = value(run, middle);
+    let (right, next) = apart(value(run, middle));
     if next == REFUSED {
-        return (right, REFUSED);
+        return both(right, REFUSED);
     }
     apply(operator, left, right, next)
 }
 
 /// An operator whose left side is an array read that needs a call.
 #[inline(never)]
-fn entry_first(run: &Run, at: usize) -> Told {
-    let (left, middle) = entry(run, at + 2);
+fn entry_first(run: &Run, at: usize) -> Both {
+    let (left, middle) = apart(entry(run, at + 2));
     if middle == REFUSED {
-        return (left, REFUSED);
+        return both(left, REFUSED);
     }
     match operand(run, middle) {
         Ok((right, next)) => apply(run.file[at + 1], left, right, next),
-        Err(number) => (number, REFUSED),
+        Err(number) => both(number, REFUSED),
     }
 }
 
 /// An array read whose index needs a call.
 #[inline(never)]
-fn entry(run: &Run, at: usize) -> Told {
-    let (index, next) = match operand(run, at + 3) {
-        Ok(told) => told,
-        Err(number) => return (number, REFUSED),
-    };
+fn entry(run: &Run, at: usize) -> Both {
+    let (index, next) = apart(value(run, at + 3));
+    if next == REFUSED {
+        return both(index, REFUSED);
+    }
     match held(run, at, index) {
-        Some(value) => (value, next),
+        Some(value) => both(value, next),
         None => BAD_INDEX,
     }
 }
 
 /// Any expression, with no quick way.
 #[inline(never)]
-fn deep(run: &Run, at: usize) -> Told {
+fn deep(run: &Run, at: usize) -> Both {
     if at >= END {
-        return (0, at);
+        return both(0, at);
     }
     match run.file[at] {
-        0 => return (constant(run, at + 1), at + 5),
-        1 => return (scalar(run, at + 1), at + 3),
+        0 => return both(constant(run, at + 1), at + 5),
+        1 => return both(scalar(run, at + 1), at + 3),
         2 => return entry(run, at),
         _ => {}
     }
     let (left, middle) = match operand(run, at + 2) {
         Ok(told) => told,
-        Err(number) => return (number, REFUSED),
+        Err(number) => return both(number, REFUSED),
     };
     match operand(run, middle) {
         Ok((right, next)) => apply(run.file[at + 1], left, right, next),
-        Err(number) => (number, REFUSED),
+        Err(number) => both(number, REFUSED),
     }
 }
 
@@ -338,9 +338,9 @@ fn index_first(run: &Run, array: usize, at: usize) -> Both {
 /// The same where the expression needs one.
 #[inline(never)]
 fn change_last(run: &Run, at: usize, cell: usize) -> Both {
-    match operand(run, at) {
-        Ok((change, _)) => both(change, cell),
-        Err(number) => both(number, NOWHERE),
+    match apart(value(run, at)) {
+        (number, REFUSED) => both(number, NOWHERE),
+        (change, _) => both(change, cell),
     }
 }
 
@@ -359,9 +359,9 @@ fn simple(operator: u8, left: i32, right: i32) -> Option<i32> {
 }
 
 #[inline(always)]
-fn apply(operator: u8, left: i32, right: i32, next: usize) -> Told {
+fn apply(operator: u8, left: i32, right: i32, next: usize) -> Both {
     match plain(operator, left, right) {
-        Some(value) => (value, next),
+        Some(value) => both(value, next),
         None => divided(operator, left, right, next),
     }
 }
@@ -390,16 +390,16 @@ fn plain(operator: u8, left: i32, right: i32) -> Option<i32> {
 
 #[cold]
 #[inline(never)]
-fn divided(operator: u8, left: i32, right: i32, next: usize) -> Told {
+fn divided(operator: u8, left: i32, right: i32, next: usize) -> Both {
     if right == 0 {
-        return (32, REFUSED);
+        return both(32, REFUSED);
     }
     let towards_zero = left.wrapping_div(right);
     let rest = left.wrapping_rem(right);
     let below = rest != 0 && (rest < 0) != (right < 0);
     match (operator, below) {
-        (4, _) => (towards_zero - i32::from(below), next),
-        (_, false) => (rest, next),
-        (_, true) => (rest + right, next),
+        (4, _) => both(towards_zero - i32::from(below), next),
+        (_, false) => both(rest, next),
+        (_, true) => both(rest + right, next),
     }
 }
