@@ -185,6 +185,7 @@ fn steps(run: &mut Run, place: &mut Place, mut left: u32) -> (u32, u8) {
             }
             ON_UNTIL => {
                 if tested!() {
+                    cold_path();
                     pop!();
                     go!(way, yes)
                 } else {
