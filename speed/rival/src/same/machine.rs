@@ -1,7 +1,8 @@
 //! The run: one place moved in place, one record a turn.
 
 use super::map::*;
-use super::value::{apart, comparison, entry_change, known, value, REFUSED};
+use super::told::{apart, REFUSED};
+use super::value::{comparison, entry_change, known, value};
 use crate::check::MAX_RECORDS;
 use crate::machine::Place;
 use std::hint::cold_path;

@@ -2,4 +2,6 @@
 
 pub mod machine;
 pub mod map;
-pub mod value;
+mod operator;
+mod told;
+mod value;

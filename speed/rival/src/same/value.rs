@@ -1,6 +1,8 @@
-//! Expressions, evaluated on the file's bytes: the value and where the expression ends, in two registers.
+//! Expressions, evaluated on the file's bytes: first the quick ways, which need no frame, then any other.
 
 use super::map::Run;
+use super::operator::{apply, comparisons, simple};
+use super::told::{answer, apart, both, Answer, Both, Told, BAD_INDEX, REFUSED};
 use std::hint::cold_path;
 
 /// No expression begins here or behind.
@@ -9,43 +11,8 @@ const END: usize = 32_768;
 /// All the bytes of a quick way that begins before this are before `END`.
 const QUICK: usize = 32_736;
 
-/// A value and the position behind its expression; or the number that refuses it, and `REFUSED`.
-pub type Told = (i32, usize);
-
-/// No expression ends at the beginning of the file.
-pub const REFUSED: usize = 0;
-
-/// The same in one number of two registers, as a call gives it: what is called last then needs no frame here.
-pub type Both = u128;
-
-#[inline(always)]
-const fn both(value: i32, next: usize) -> Both {
-    value as u32 as u128 | (next as u128) << 64
-}
-
-#[inline(always)]
-pub const fn apart(both: Both) -> Told {
-    (both as u32 as i32, (both >> 64) as usize)
-}
-
-const BAD_INDEX: Both = both(33, REFUSED);
-
 /// No cell has this number.
 pub const NOWHERE: usize = 131_072;
-
-/// The same, where it is inlined: a leaf is then never tested for a refusal.
-pub type Answer = Result<Told, i32>;
-
-#[inline(always)]
-fn answer((value, next): Told) -> Answer {
-    match next {
-        REFUSED => {
-            cold_path();
-            Err(value)
-        }
-        _ => Ok((value, next)),
-    }
-}
 
 /// Bytes read as one, so that a number is tested as one.
 #[inline(always)]
@@ -291,17 +258,6 @@ pub fn comparison(run: &Run, at: usize) -> Option<(u32, u32)> {
     Some((comparisons(*left, constant(run, at + 6)), operator))
 }
 
-/// Which comparisons hold: the bits 0 to 5 are `< > = != <= >=`.
-#[inline(always)]
-fn comparisons(left: i32, right: i32) -> u32 {
-    let equal_or_more = if left == right { 52 } else { 42 };
-    if left < right {
-        25
-    } else {
-        equal_or_more
-    }
-}
-
 /// The cell that a SET of an entry changes and by what: its index, then its expression. Or no cell, and the number that refuses.
 #[inline(never)]
 pub fn entry_change(run: &Run, array: usize, at: usize) -> Both {
@@ -341,65 +297,5 @@ fn change_last(run: &Run, at: usize, cell: usize) -> Both {
     match apart(value(run, at)) {
         (number, REFUSED) => both(number, NOWHERE),
         (change, _) => both(change, cell),
-    }
-}
-
-/// An operator that an index is made of.
-#[inline(always)]
-fn simple(operator: u8, left: i32, right: i32) -> Option<i32> {
-    Some(match operator {
-        0 => left.wrapping_add(right),
-        1 => left.wrapping_sub(right),
-        2 => left ^ right,
-        3 => left.wrapping_mul(right),
-        6 => left & right,
-        7 => left | right,
-        _ => return None,
-    })
-}
-
-#[inline(always)]
-fn apply(operator: u8, left: i32, right: i32, next: usize) -> Both {
-    match plain(operator, left, right) {
-        Some(value) => both(value, next),
-        None => divided(operator, left, right, next),
-    }
-}
-
-/// Any operator but a division.
-#[inline(always)]
-fn plain(operator: u8, left: i32, right: i32) -> Option<i32> {
-    Some(match operator {
-        0 => left.wrapping_add(right),
-        1 => left.wrapping_sub(right),
-        2 => left ^ right,
-        3 => left.wrapping_mul(right),
-        4 | 5 => return None,
-        6 => left & right,
-        7 => left | right,
-        8 => i32::from(left != 0 && right != 0),
-        9 => i32::from(left != 0 || right != 0),
-        10 => i32::from(left < right),
-        11 => i32::from(left > right),
-        12 => i32::from(left == right),
-        13 => i32::from(left != right),
-        14 => i32::from(left <= right),
-        _ => i32::from(left >= right),
-    })
-}
-
-#[cold]
-#[inline(never)]
-fn divided(operator: u8, left: i32, right: i32, next: usize) -> Both {
-    if right == 0 {
-        return both(32, REFUSED);
-    }
-    let towards_zero = left.wrapping_div(right);
-    let rest = left.wrapping_rem(right);
-    let below = rest != 0 && (rest < 0) != (right < 0);
-    match (operator, below) {
-        (4, _) => both(towards_zero - i32::from(below), next),
-        (_, false) => both(rest, next),
-        (_, true) => both(rest + right, next),
     }
 }
