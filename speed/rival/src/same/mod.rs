@@ -2,6 +2,6 @@
 
 pub mod machine;
 pub mod map;
-mod operator;
-mod told;
-mod value;
+pub mod operator;
+pub mod told;
+pub mod value;

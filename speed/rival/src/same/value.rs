@@ -7,12 +7,10 @@ use std::hint::cold_path;
 
 /// No expression begins here or behind.
 const END: usize = 32_768;
-
 /// All the bytes of a quick way that begins before this are before `END`.
 const QUICK: usize = 32_736;
-
 /// No cell has this number.
-pub const NOWHERE: usize = 131_072;
+const NOWHERE: usize = 131_072;
 
 /// Bytes read as one, so that a number is tested as one.
 #[inline(always)]
@@ -97,7 +95,7 @@ fn held(run: &Run, at: usize, index: i32) -> Option<i32> {
 
 /// What an expression is worth; a constant or a scalar needs no call.
 #[inline(always)]
-pub fn operand(run: &Run, at: usize) -> Answer {
+fn operand(run: &Run, at: usize) -> Answer {
     assert!(at < END);
     match run.file[at] {
         0 => Ok((constant(run, at + 1), at + 5)),
