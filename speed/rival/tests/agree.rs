@@ -154,8 +154,8 @@ fn the_workloads_make_more_than_ten_million_steps_and_end() {
 }
 
 /// The built program on a file, as it is used.
-fn rival(words: &[&str], file: &[u8]) -> (String, Option<i32>) {
-    let mut child = Command::new(env!("CARGO_BIN_EXE_rival"))
+fn answer(program: &str, words: &[&str], file: &[u8]) -> (String, Option<i32>) {
+    let mut child = Command::new(program)
         .args(words)
         .stdin(Stdio::piped())
         .stdout(Stdio::piped())
@@ -173,17 +173,16 @@ fn rival(words: &[&str], file: &[u8]) -> (String, Option<i32>) {
 fn the_program_shows_where_it_stopped_and_its_speed() {
     let file = examples::stop34().tree.encode();
     let lines = "steps 5 stop 0\nat 4 5 down\nframe 4 6\nframe 4 6\nframe 4 2\ncell 0 2\n";
-    for free in [&[][..], &["free"]] {
-        let words = |n, rest: &[&'static str]| [&[n], free, rest].concat();
-        let (text, status) = rival(&words("5", &["show"]), &file);
+    for program in [env!("CARGO_BIN_EXE_rival"), env!("CARGO_BIN_EXE_free")] {
+        let (text, status) = answer(program, &["5", "show"], &file);
         assert_eq!((text.as_str(), status), (lines, Some(0)));
-        let (text, status) = rival(&words("4294967295", &[]), &file);
+        let (text, status) = answer(program, &["4294967295"], &file);
         assert!(text.starts_with("steps 128 stop 34\n") && status == Some(0));
         assert!(text.ends_with(" steps a second\n"));
-        let (text, status) = rival(&words("1", &[]), &file[1..]);
+        let (text, status) = answer(program, &["1"], &file[1..]);
         assert_eq!((text.as_str(), status), ("refused 2 record 0\n", Some(0)));
-    }
-    for words in [&[][..], &["x"], &["1", "2"], &["4294967296"]] {
-        assert_eq!(rival(words, &file), (String::new(), Some(2)));
+        for words in [&[][..], &["x"], &["1", "2"], &["4294967296"]] {
+            assert_eq!(answer(program, words, &file), (String::new(), Some(2)));
+        }
     }
 }
