@@ -1,9 +1,8 @@
 //! The rival answers what the second program answers: checks, runs both ways, places and stores.
 #![forbid(unsafe_code)]
 
-use rival::machine::Place;
-use rival::value::{Store, MAX_CELLS};
-use rival::{machine as free, same, table};
+use rival::machine::{run, Place};
+use rival::map::{Program, MAX_CELLS};
 use second::check::check;
 use second::generator;
 use second::machine;
@@ -22,34 +21,14 @@ fn it_accepts_and_refuses_the_same_files() {
     for line in cases.lines() {
         let file = from_hex(line).expect("a case");
         let expected = check_answer(&file);
-        let told = [
-            table::Program::new(&file).map(|program| program.cells),
-            same::map::Program::new(&file).map(|program| program.cells),
-        ];
-        for told in told {
-            match told {
-                Ok(_) => assert!(expected.starts_with("accepted "), "{line} {expected}"),
-                Err((number, record)) => {
-                    assert_eq!(format!("refused {number} {record}"), expected, "{line}")
-                }
+        match Program::new(&file) {
+            Ok(_) => assert!(expected.starts_with("accepted "), "{line} {expected}"),
+            Err((number, record)) => {
+                assert_eq!(format!("refused {number} {record}"), expected, "{line}")
             }
         }
     }
 }
-
-type Runs = fn(&[u8], &mut Place, &mut Store, u32) -> (u32, u8);
-
-fn run_free(file: &[u8], place: &mut Place, store: &mut Store, n: u32) -> (u32, u8) {
-    let program = table::Program::new(file).expect("sound");
-    free::run(&program, place, store, n)
-}
-
-fn run_same(file: &[u8], place: &mut Place, store: &mut Store, n: u32) -> (u32, u8) {
-    let mut program = same::map::Program::new(file).expect("sound");
-    same::machine::run(&mut program, place, store, n)
-}
-
-const BOTH: [Runs; 2] = [run_free, run_same];
 
 fn rivals(place: &place::Place) -> Place {
     let mut own = Place::start();
@@ -71,24 +50,13 @@ fn seconds(place: &Place) -> place::Place {
     }
 }
 
-/// The same run by both machines and the second program: steps, reason, place with its unused slots, every cell.
+/// The same run by both: steps, reason, place with its unused slots, every cell.
 fn agree(file: &[u8], told: &program::Program, from: &place::Place, store: &[i32], n: u32) {
-    for run in BOTH {
-        agrees(run, file, told, from, store, n);
-    }
-}
-
-fn agrees(
-    run: Runs,
-    file: &[u8],
-    told: &program::Program,
-    from: &place::Place,
-    store: &[i32],
-    n: u32,
-) {
+    let mut rival = Program::new(file).expect("sound");
+    assert_eq!(rival.cells, store.len());
     let (mut place, mut own) = (rivals(from), [0; MAX_CELLS]);
     own[..store.len()].copy_from_slice(store);
-    let (steps, reason) = run(file, &mut place, &mut own, n);
+    let (steps, reason) = run(&mut rival, &mut place, &mut own, n);
     let mut expected = store.to_vec();
     let ran = machine::run(told, from, &mut expected, n);
     let stop = ran.reason.map_or(0, |number| number.value());
@@ -144,18 +112,16 @@ fn it_runs_the_workloads_alike_and_the_files_are_the_builders() {
 #[test]
 fn the_workloads_make_more_than_ten_million_steps_and_end() {
     for workload in workloads::all() {
-        for run in BOTH {
-            let mut store = [0; MAX_CELLS];
-            let file = workload.tree.encode();
-            let (steps, reason) = run(&file, &mut Place::start(), &mut store, u32::MAX);
-            assert!(steps >= 10_000_000 && reason == 30, "{}", workload.name);
-        }
+        let mut program = Program::new(&workload.tree.encode()).expect("sound");
+        let mut store = [0; MAX_CELLS];
+        let (steps, reason) = run(&mut program, &mut Place::start(), &mut store, u32::MAX);
+        assert!(steps >= 10_000_000 && reason == 30, "{}", workload.name);
     }
 }
 
 /// The built program on a file, as it is used.
-fn answer(program: &str, words: &[&str], file: &[u8]) -> (String, Option<i32>) {
-    let mut child = Command::new(program)
+fn rival(words: &[&str], file: &[u8]) -> (String, Option<i32>) {
+    let mut child = Command::new(env!("CARGO_BIN_EXE_rival"))
         .args(words)
         .stdin(Stdio::piped())
         .stdout(Stdio::piped())
@@ -172,17 +138,15 @@ fn answer(program: &str, words: &[&str], file: &[u8]) -> (String, Option<i32>) {
 #[test]
 fn the_program_shows_where_it_stopped_and_its_speed() {
     let file = examples::stop34().tree.encode();
+    let (text, status) = rival(&["5", "show"], &file);
     let lines = "steps 5 stop 0\nat 4 5 down\nframe 4 6\nframe 4 6\nframe 4 2\ncell 0 2\n";
-    for program in [env!("CARGO_BIN_EXE_rival"), env!("CARGO_BIN_EXE_free")] {
-        let (text, status) = answer(program, &["5", "show"], &file);
-        assert_eq!((text.as_str(), status), (lines, Some(0)));
-        let (text, status) = answer(program, &["4294967295"], &file);
-        assert!(text.starts_with("steps 128 stop 34\n") && status == Some(0));
-        assert!(text.ends_with(" steps a second\n"));
-        let (text, status) = answer(program, &["1"], &file[1..]);
-        assert_eq!((text.as_str(), status), ("refused 2 record 0\n", Some(0)));
-        for words in [&[][..], &["x"], &["1", "2"], &["4294967296"]] {
-            assert_eq!(answer(program, words, &file), (String::new(), Some(2)));
-        }
+    assert_eq!((text.as_str(), status), (lines, Some(0)));
+    let (text, status) = rival(&["4294967295"], &file);
+    assert!(text.starts_with("steps 128 stop 34\n") && status == Some(0));
+    assert!(text.ends_with(" steps a second\n"));
+    let (text, status) = rival(&["1"], &file[1..]);
+    assert_eq!((text.as_str(), status), ("refused 2 record 0\n", Some(0)));
+    for words in [&[][..], &["x"], &["1", "2"], &["4294967296"]] {
+        assert_eq!(rival(words, &file), (String::new(), Some(2)));
     }
 }

@@ -1,11 +1,17 @@
 //! What a run asks of a checked file, made once: the file with zeros behind, the map by way, the arrays.
 
 use crate::check::*;
-use crate::machine::MAX_FRAMES;
 use crate::table::{rows, Row, BODY, DOWN, KIND, MATE, MID};
 
 /// Room for the file, and for what is read behind a position that was tested.
 pub const FILE_ROOM: usize = 32_784;
+
+/// A store has room for this many cells.
+pub const MAX_CELLS: usize = 2048;
+
+pub type Store = [i32; MAX_CELLS];
+
+pub const MAX_FRAMES: usize = 1104;
 
 /// A way is a label, and `MAX_RECORDS` more upwards.
 pub const WAYS: usize = 2 * MAX_RECORDS;
@@ -45,7 +51,7 @@ pub struct Run {
     pub map: Map,
     /// 16 starts, then 16 lengths.
     pub arrays: [u16; 32],
-    pub cells: [i32; 2048],
+    pub cells: Store,
     pub kinds: [u16; MAX_FRAMES],
     pub labels: [u16; MAX_FRAMES],
 }
@@ -63,7 +69,7 @@ impl Program {
             file: [0; FILE_ROOM],
             map: [[0; WAYS]; 7],
             arrays: [0; 32],
-            cells: [0; 2048],
+            cells: [0; MAX_CELLS],
             kinds: [0; MAX_FRAMES],
             labels: [0; MAX_FRAMES],
         });

@@ -1,6 +1,6 @@
 //! The operators, over i32.
 
-use super::told::{both, Both, REFUSED};
+use crate::told::{both, Both, REFUSED};
 
 /// Which comparisons hold: the bits 0 to 5 are `< > = != <= >=`.
 #[inline(always)]
