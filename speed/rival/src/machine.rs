@@ -1,11 +1,13 @@
 //! The run: one place moved in place, one record a turn.
 
-use crate::check::*;
-use crate::table::*;
-use crate::value::{entry_change, operand, worth, Store, MAX_CELLS};
+use crate::check::MAX_RECORDS;
+use crate::map::*;
+use crate::told::{apart, REFUSED};
+use crate::value::{comparison, entry_change, known, value};
+use std::hint::cold_path;
 
-pub const MAX_FRAMES: usize = 1104;
-const MAX_CALLS: usize = 64;
+/// A call counts for so much that 64 of them fit a u32 and 65 do not: what overflows is refused.
+const CALL: u32 = u32::MAX / 65 + 1;
 
 const TRUE: u16 = 0;
 const FALSE: u16 = 1;
@@ -39,32 +41,32 @@ impl Place {
 }
 
 /// Steps made and the reason, 0 where all n were made. The place fits; the store's cells come first.
-///
-/// All but the frames stays in registers. The way is the label met and the direction in one number, `a` the way before it
-/// (or its label: the direction of it is not asked). Each turn is a step; a refused one changes nothing.
-pub fn run(program: &Program, place: &mut Place, store: &mut Store, n: u32) -> (u32, u8) {
-    let (left, reason) = steps(&program.tables, place, store, n);
+pub fn run(program: &mut Program, place: &mut Place, store: &mut Store, n: u32) -> (u32, u8) {
+    let run = &mut *program.run;
+    (run.kinds, run.labels, run.cells) = (place.kinds, place.labels, *store);
+    let (left, reason) = steps(run, place, n);
+    (place.kinds, place.labels, *store) = (run.kinds, run.labels, run.cells);
     (n - left, reason)
 }
 
-/// Steps not made and the reason.
+/// Steps not made and the reason. What changes at every step stays in registers; `a` is the way before, or its label.
 #[inline(never)]
-fn steps(tables: &Tables, place: &mut Place, store: &mut Store, mut left: u32) -> (u32, u8) {
+fn steps(run: &mut Run, place: &mut Place, mut left: u32) -> (u32, u8) {
     let is_call = |kind: &&u16| **kind == CALLED;
-    let mut calls = place.kinds[..place.count].iter().filter(is_call).count();
+    let mut calls = CALL * run.kinds[..place.count].iter().filter(is_call).count() as u32;
     let mut way = usize::from(place.b) + MAX_RECORDS * place.direction;
     let mut a = usize::from(place.a);
     let mut count = place.count;
-    let (kinds, labels) = (&mut place.kinds, &mut place.labels);
     let reason = loop {
         if left == 0 {
             break 0;
         }
-        // Never so: a test that is foretold is off the chain from way to way, a mask would be on it.
-        if way >= WAYS {
-            break 1;
+        macro_rules! ask {
+            ($section:expr) => {
+                usize::from(run.map[$section][way])
+            };
         }
-        let yes = usize::from(tables.ways[YES][way]);
+        let yes = ask!(YES);
         macro_rules! go {
             ($from:expr, $to:expr) => {{
                 (a, way) = ($from, $to);
@@ -72,139 +74,153 @@ fn steps(tables: &Tables, place: &mut Place, store: &mut Store, mut left: u32) -
                 continue;
             }};
         }
-        macro_rules! ask {
-            ($column:expr) => {
-                tables.ways[$column][way]
-            };
-        }
-        macro_rules! expression {
-            () => {
-                ask!(EXPR)
-            };
-        }
-        macro_rules! answered {
-            ($answer:expr) => {
-                match $answer {
-                    Ok(told) => told,
-                    Err(number) => break number as u8,
-                }
-            };
+        macro_rules! stop {
+            ($reason:expr) => {{
+                cold_path();
+                break $reason;
+            }};
         }
         macro_rules! push {
             ($kind:expr, $label:expr) => {{
-                kinds[count] = $kind;
-                labels[count] = $label;
+                run.kinds[count] = $kind;
+                run.labels[count] = $label as u16;
                 count += 1;
             }};
         }
         macro_rules! pop {
             () => {{
-                count -= 1;
-                let label = labels[count];
-                kinds[count] = 0;
-                labels[count] = 0;
-                label
+                count = count.wrapping_sub(1);
+                run.kinds[count] = 0;
+                run.labels[count] = 0;
             }};
         }
         macro_rules! set {
             ($by:expr) => {{
-                let (change, _) = answered!(operand(tables, store, expression!()));
-                let held = &mut store[usize::from(ask!(SECOND) as u8)];
-                *held = $by(*held, change);
-                go!(way, yes)
-            }};
-        }
-        macro_rules! set_entry {
-            ($by:expr) => {{
-                let (cell, change) = entry_change(tables, store, ask!(SECOND) as u8, expression!());
-                if cell >= MAX_CELLS {
-                    break change as u8;
+                let at = ask!(EXPR);
+                macro_rules! by {
+                    ($change:expr) => {{
+                        let change = $change;
+                        let held = &mut run.cells[ask!(SECOND)];
+                        *held = $by(*held, change);
+                        go!(way, yes)
+                    }};
                 }
-                store[cell] = $by(store[cell], change);
-                go!(way, yes)
+                match known(run, at) {
+                    (1, change) => by!(change),
+                    (0, change) => by!(change),
+                    _ => {}
+                }
+                cold_path();
+                match apart(value(run, at)) {
+                    (number, REFUSED) => stop!(number as u8),
+                    (change, _) => by!(change),
+                }
             }};
         }
         macro_rules! leave {
             ($side:expr) => {{
-                if calls == 0 {
-                    break 30;
-                }
-                calls -= 1;
-                let label = usize::from(pop!());
-                go!(
-                    label,
-                    usize::from(tables.ways[YES][label % MAX_RECORDS + $side])
-                )
+                let Some(fewer) = calls.checked_sub(CALL) else {
+                    stop!(30);
+                };
+                let label = usize::from(run.labels[count.wrapping_sub(1)]);
+                assert!(label < MAX_RECORDS);
+                calls = fewer;
+                pop!();
+                go!(label, usize::from(run.map[YES][label + $side]))
             }};
         }
-        match ask!(ACT) & 15 {
-            SET_ADD => set!(i32::wrapping_add),
-            SET_SUB => set!(i32::wrapping_sub),
-            SET_XOR => set!(|held, change| held ^ change),
-            ENTRY_ADD => set_entry!(i32::wrapping_add),
-            ENTRY_SUB => set_entry!(i32::wrapping_sub),
-            ENTRY_XOR => set_entry!(|held, change| held ^ change),
+        // Whether a condition holds: by the bit of a comparison; any other is called for.
+        macro_rules! tested {
+            () => {{
+                let at = ask!(EXPR);
+                let (holds, bit) = match comparison(run, at) {
+                    Some(told) => told,
+                    None => {
+                        cold_path();
+                        match apart(value(run, at)) {
+                            (number, REFUSED) => stop!(number as u8),
+                            (value, _) => (u32::from(value != 0), 0),
+                        }
+                    }
+                };
+                (holds >> (bit & 31)) & 1 != 0
+            }};
+        }
+        match run.map[ACT][way] {
+            CELL_ADD => set!(i32::wrapping_add),
+            CELL_SUB => set!(i32::wrapping_sub),
+            CELL_XOR => set!(|held, change| held ^ change),
+            ENTRY => {
+                let (change, cell) = apart(entry_change(run, ask!(SECOND), ask!(EXPR)));
+                let operator = ask!(FIRST);
+                let Some(held) = run.cells.get_mut(cell) else {
+                    stop!(change as u8);
+                };
+                *held = match operator {
+                    0 => held.wrapping_add(change),
+                    1 => held.wrapping_sub(change),
+                    _ => *held ^ change,
+                };
+                go!(way, yes)
+            }
             GO_IN => {
-                if calls == MAX_CALLS {
-                    break 34;
-                }
-                calls += 1;
-                push!(CALLED, (way % MAX_RECORDS) as u16);
-                go!(usize::from(ask!(FIRST)), usize::from(ask!(SECOND)))
+                let Some(more) = calls.checked_add(CALL) else {
+                    stop!(34);
+                };
+                calls = more;
+                push!(CALLED, way % MAX_RECORDS);
+                go!(ask!(FIRST), ask!(SECOND))
             }
             OUT_DOWN => leave!(0),
             OUT_UP => leave!(MAX_RECORDS),
             ON_IF => {
-                if answered!(worth(tables, store, expression!())) {
+                if tested!() {
                     push!(TRUE, ask!(HEAD));
                     go!(way, yes)
                 } else {
                     push!(FALSE, ask!(HEAD));
-                    go!(way, usize::from(ask!(NO)))
+                    go!(way, ask!(NO))
                 }
             }
             ON_FI => {
-                let holds = answered!(worth(tables, store, expression!()));
-                if (kinds[count.wrapping_sub(1)] == TRUE) != holds {
-                    break 31;
+                let holds = tested!();
+                if (run.kinds[count.wrapping_sub(1)] == TRUE) != holds {
+                    stop!(31);
                 }
                 pop!();
                 go!(way, yes)
             }
             ON_FROM => {
-                let holds = answered!(worth(tables, store, expression!()));
                 let top = count.wrapping_sub(1);
-                match labels.get(top) {
-                    Some(label) if *label == ask!(HEAD) => {
-                        if holds {
-                            break 31;
-                        }
-                        kinds[top] = IN_DO;
-                        go!(way, yes)
+                if top < run.kinds.len()
+                    && run.kinds[top] == IN_LOOP
+                    && usize::from(run.labels[top]) == ask!(HEAD)
+                {
+                    if tested!() {
+                        stop!(31);
                     }
-                    _ => {
-                        if !holds {
-                            break 31;
-                        }
-                        push!(IN_DO, ask!(HEAD));
-                        go!(way, yes)
-                    }
+                    run.kinds[top] = IN_DO;
+                    go!(way, yes)
                 }
+                if !tested!() {
+                    stop!(31);
+                }
+                push!(IN_DO, ask!(HEAD));
+                go!(way, yes)
             }
             ON_UNTIL => {
-                if answered!(worth(tables, store, expression!())) {
+                if tested!() {
+                    cold_path();
                     pop!();
                     go!(way, yes)
                 } else {
-                    kinds[count.wrapping_sub(1)] = IN_LOOP;
-                    go!(way, usize::from(ask!(NO)))
+                    run.kinds[count.wrapping_sub(1)] = IN_LOOP;
+                    go!(way, ask!(NO))
                 }
             }
-            GO_ON => go!(way, yes),
-            // No record has these: they make the match whole without a test of its own, and the count, which is no u16, keeps
-            // the way a full register (a u16 would be widened again in every step, on the longest chain of the loop).
-            14 | 15 => go!(way, count),
-            _ => break 1,
+            // No record has this act. A way that is no u16 keeps the others in full registers.
+            0 => go!(way, count),
+            _ => go!(way, yes),
         }
     };
     (place.direction, place.b) = (way / MAX_RECORDS, (way % MAX_RECORDS) as u16);

@@ -4,8 +4,7 @@
 #![deny(unsafe_code)]
 
 use rival::machine::{run, Place};
-use rival::table::Program;
-use rival::value::MAX_CELLS;
+use rival::map::{Program, MAX_CELLS};
 use std::hint::black_box;
 use std::io::Read;
 use std::process::ExitCode;
@@ -26,7 +25,7 @@ fn main() -> ExitCode {
         return ExitCode::from(1);
     }
     match Program::new(&file) {
-        Ok(program) => timed(&program, n, show),
+        Ok(mut program) => timed(&mut program, n, show),
         Err((number, record)) => println!("refused {number} record {record}"),
     }
     ExitCode::SUCCESS
@@ -46,7 +45,7 @@ fn usage() -> ExitCode {
     ExitCode::from(2)
 }
 
-fn timed(program: &Program, n: u32, show: bool) {
+fn timed(program: &mut Program, n: u32, show: bool) {
     let mut place = Place::start();
     let mut store = [0; MAX_CELLS];
     let before = clock();

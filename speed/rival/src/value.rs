@@ -1,296 +1,299 @@
-//! Expressions, evaluated on the file's bytes: the value and where the expression ends, by value, so that both stay in registers.
+//! Expressions, evaluated on the file's bytes: first the quick ways, which need no frame, then any other.
 
-use crate::check::MAX_FILE;
-use crate::table::Tables;
+use crate::map::Run;
+use crate::operator::{apply, comparisons, simple};
+use crate::told::{answer, apart, both, Answer, Both, Told, BAD_INDEX, REFUSED};
 use std::hint::cold_path;
 
-/// A store has room for this many cells, so that no cell needs a test.
-pub const MAX_CELLS: usize = 2048;
+/// No expression begins here or behind.
+const END: usize = 32_768;
+/// All the bytes of a quick way that begins before this are before `END`.
+const QUICK: usize = 32_736;
+/// No cell has this number.
+const NOWHERE: usize = 131_072;
 
-pub type Store = [i32; MAX_CELLS];
-
-/// A value and the position after its expression; or the number that refuses it, and `REFUSED`. What a call gives back.
-pub type Told = (i32, usize);
-
-/// No expression ends at the beginning of the file.
-const REFUSED: usize = 0;
-
-/// The same, where it is inlined: a leaf is then never tested for a refusal.
-pub type Answer = Result<(i32, usize), i32>;
+/// Bytes read as one, so that a number is tested as one.
+#[inline(always)]
+fn bytes<const N: usize>(run: &Run, at: usize) -> [u8; N] {
+    *run.file[at..].first_chunk().expect("room behind")
+}
 
 #[inline(always)]
-fn answer((value, next): Told) -> Answer {
-    match next {
-        REFUSED => Err(value),
-        _ => Ok((value, next)),
+fn two(run: &Run, at: usize) -> usize {
+    usize::from(u16::from_le_bytes(bytes(run, at)))
+}
+
+#[inline(always)]
+fn constant(run: &Run, at: usize) -> i32 {
+    i32::from_le_bytes(bytes(run, at))
+}
+
+/// A cell, 0 past the end: a panic would need a frame of its own in whoever asks.
+#[inline(always)]
+fn cell(run: &Run, number: usize) -> i32 {
+    match run.cells.get(number) {
+        Some(cell) => *cell,
+        None => {
+            cold_path();
+            0
+        }
     }
 }
 
 #[inline(always)]
-fn constant(tables: &Tables, at: usize) -> i32 {
-    let file = &tables.file;
-    i32::from_le_bytes([file[at], file[at + 1], file[at + 2], file[at + 3]])
-}
-
-/// There are at most 64 scalars, so that the lower byte of its number tells one.
-#[inline(always)]
-fn scalar(tables: &Tables, store: &Store, at: usize) -> i32 {
-    store[usize::from(tables.file[at])]
+fn scalar(run: &Run, at: usize) -> i32 {
+    cell(run, two(run, at))
 }
 
 /// A constant or a scalar; the position leaves room for it.
 #[inline(always)]
-fn leaf(tables: &Tables, store: &Store, at: usize) -> Option<(i32, usize)> {
-    match tables.file[at] {
-        1 => Some((scalar(tables, store, at + 1), at + 3)),
-        0 => Some((constant(tables, at + 1), at + 5)),
-        _ => None,
+fn leaf(run: &Run, at: usize) -> Option<Told> {
+    match run.file[at] {
+        0 => Some((constant(run, at + 1), at + 5)),
+        1 => {
+            cold_path();
+            Some((scalar(run, at + 1), at + 3))
+        }
+        _ => {
+            cold_path();
+            None
+        }
     }
 }
 
-/// An operator on two constants or scalars, but no division; the position leaves room for it.
+/// A scalar and a constant or scalar under an operator that an index is made of; the position leaves room for it.
 #[inline(always)]
-fn pair(tables: &Tables, store: &Store, at: usize) -> Option<(i32, usize)> {
-    let file = &tables.file;
-    if file[at] != 3 {
+fn pair(run: &Run, at: usize) -> Option<Told> {
+    let file = &run.file;
+    if file[at] != 3 || file[at + 2] != 1 {
         return None;
     }
-    let (left, right, next) = match file[at + 2] {
-        1 => {
-            let left = scalar(tables, store, at + 3);
-            let (right, next) = leaf(tables, store, at + 5)?;
-            (left, right, next)
-        }
-        0 => {
-            cold_path();
-            let left = constant(tables, at + 3);
-            let (right, next) = leaf(tables, store, at + 7)?;
-            (left, right, next)
-        }
-        _ => return None,
-    };
-    Some((plain(file[at + 1], left, right)?, next))
+    let (right, next) = leaf(run, at + 5)?;
+    let left = scalar(run, at + 3);
+    Some((simple(file[at + 1], left, right)?, next))
 }
 
-/// The same as `value`; a constant or a scalar needs no call.
+/// The cell of an array at an index: number and index are tested here, the cell where it is used.
 #[inline(always)]
-pub fn operand(tables: &Tables, store: &Store, at: u16) -> Answer {
-    let here = usize::from(at);
-    match tables.file[here] {
-        0 => Ok((constant(tables, here + 1), here + 5)),
-        1 => Ok((scalar(tables, store, here + 1), here + 3)),
-        _ => answer(value(tables, store, here)),
+fn cell_at(run: &Run, array: usize, index: i32) -> Option<usize> {
+    let length = usize::from(*run.arrays.get(array + 16)?);
+    let index = index as u32 as usize;
+    (index < length).then(|| usize::from(run.arrays[array]) + index)
+}
+
+/// The array read at a position, with its index; none refuses it.
+#[inline(always)]
+fn held(run: &Run, at: usize, index: i32) -> Option<i32> {
+    match cell_at(run, two(run, at + 1), index) {
+        Some(number) => Some(cell(run, number)),
+        None => {
+            cold_path();
+            None
+        }
     }
 }
 
-/// The value of an array's entry or of an operator; both sides always. What needs no call of its own needs no frame here.
+/// What an expression is worth; a constant or a scalar needs no call.
+#[inline(always)]
+fn operand(run: &Run, at: usize) -> Answer {
+    assert!(at < END);
+    match run.file[at] {
+        0 => Ok((constant(run, at + 1), at + 5)),
+        1 => Ok((run.cells[two(run, at + 1)], at + 3)),
+        _ => answer(apart(value(run, at))),
+    }
+}
+
+/// The first byte of an expression, and what it is worth where it is a constant or a scalar.
+#[inline(always)]
+pub fn known(run: &Run, at: usize) -> (u8, i32) {
+    assert!(at < END);
+    match run.file[at] {
+        1 => (1, run.cells[two(run, at + 1)]),
+        0 => (0, constant(run, at + 1)),
+        tag => (tag, 0),
+    }
+}
+
+/// The same of an operator or an array read: the quick ways. All that needs a frame is called last, so that this has none.
 #[cold]
 #[inline(never)]
-pub fn value(tables: &Tables, store: &Store, at: usize) -> Told {
-    let here = at & (MAX_FILE - 1);
-    let file = &tables.file;
-    if file[here] == 3 {
-        let (left, middle) = match file[here + 2] {
-            1 => (scalar(tables, store, here + 3), here + 5),
-            0 => {
-                cold_path();
-                (constant(tables, here + 3), here + 7)
-            }
-            _ => match pair(tables, store, here + 2) {
-                Some(told) => told,
-                None => return left_first(tables, store, here),
-            },
-        };
-        return right_then(tables, store, here, left, middle);
+pub fn value(run: &Run, at: usize) -> Both {
+    if at >= QUICK {
+        cold_path();
+        return deep(run, at);
     }
-    let (index, next) = match leaf(tables, store, here + 3) {
-        Some(told) => told,
-        None => match pair(tables, store, here + 3) {
-            Some(told) => told,
-            None => return entry(tables, store, here),
+    let tag = run.file[at];
+    if tag > 2 {
+        return operated(run, at);
+    }
+    if tag < 2 {
+        cold_path();
+        return deep(run, at);
+    }
+    match near(run, at + 3) {
+        Some((index, next)) => match held(run, at, index) {
+            Some(value) => both(value, next),
+            None => BAD_INDEX,
         },
-    };
-    held(tables, store, file[here + 1], index, next)
+        None => entry(run, at),
+    }
+}
+
+/// A constant, a scalar or a pair.
+#[inline(always)]
+fn near(run: &Run, at: usize) -> Option<Told> {
+    if run.file[at] > 1 {
+        return pair(run, at);
+    }
+    leaf(run, at)
 }
 
 #[inline(always)]
-fn right_then(tables: &Tables, store: &Store, here: usize, left: i32, middle: usize) -> Told {
-    let middle = middle & (MAX_FILE - 1);
-    match leaf(tables, store, middle) {
-        Some((right, next)) => apply(tables.file[here + 1], left, right, next),
-        None => right_last(tables, store, here, left, middle),
+fn operated(run: &Run, at: usize) -> Both {
+    let first = run.file[at + 2];
+    let (left, middle) = if first < 2 {
+        match first {
+            0 => (constant(run, at + 3), at + 7),
+            _ => (scalar(run, at + 3), at + 5),
+        }
+    } else if first > 2 {
+        match pair(run, at + 2) {
+            Some(left) => left,
+            None => return deep(run, at),
+        }
+    } else {
+        let Some((index, middle)) = near(run, at + 5) else {
+            return entry_first(run, at);
+        };
+        match held(run, at + 2, index) {
+            Some(left) => (left, middle),
+            None => return BAD_INDEX,
+        }
+    };
+    match leaf(run, middle) {
+        Some((right, next)) => apply(run.file[at + 1], left, right, next),
+        None => right_last(run, at, left, middle),
     }
-}
-
-/// An operator whose left side needs a call.
-#[inline(never)]
-fn left_first(tables: &Tables, store: &Store, at: usize) -> Told {
-    let here = at & (MAX_FILE - 1);
-    let (left, middle) = value(tables, store, here + 2);
-    if middle == REFUSED {
-        return (left, REFUSED);
-    }
-    right_then(tables, store, here, left, middle)
 }
 
 /// An operator whose right side needs a call.
 #[inline(never)]
-fn right_last(tables: &Tables, store: &Store, at: usize, left: i32, middle: usize) -> Told {
-    let operator = tables.file[(at & (MAX_FILE - 1)) + 1];
-    let (right, next) = value(tables, store, middle);
+fn right_last(run: &Run, at: usize, left: i32, middle: usize) -> Both {
+    let operator = run.file[at + 1];
+    let (right, next) = apart(value(run, middle));
     if next == REFUSED {
-        return (right, REFUSED);
+        return both(right, REFUSED);
     }
     apply(operator, left, right, next)
 }
 
-/// An array's entry whose index needs a call.
+/// An operator whose left side is an array read that needs a call.
 #[inline(never)]
-fn entry(tables: &Tables, store: &Store, at: usize) -> Told {
-    let here = at & (MAX_FILE - 1);
-    let (index, next) = value(tables, store, here + 3);
+fn entry_first(run: &Run, at: usize) -> Both {
+    let (left, middle) = apart(entry(run, at + 2));
+    if middle == REFUSED {
+        return both(left, REFUSED);
+    }
+    match operand(run, middle) {
+        Ok((right, next)) => apply(run.file[at + 1], left, right, next),
+        Err(number) => both(number, REFUSED),
+    }
+}
+
+/// An array read whose index needs a call.
+#[inline(never)]
+fn entry(run: &Run, at: usize) -> Both {
+    let (index, next) = apart(value(run, at + 3));
     if next == REFUSED {
-        return (index, REFUSED);
+        return both(index, REFUSED);
     }
-    held(tables, store, tables.file[here + 1], index, next)
-}
-
-#[inline(always)]
-fn held(tables: &Tables, store: &Store, array: u8, index: i32, next: usize) -> Told {
-    match cell_at(tables, array, index) {
-        Some(cell) => (store[cell], next),
-        None => (33, REFUSED),
+    match held(run, at, index) {
+        Some(value) => both(value, next),
+        None => BAD_INDEX,
     }
 }
 
-#[inline(always)]
-fn cell_at(tables: &Tables, array: u8, index: i32) -> Option<usize> {
-    let [first, length] = tables.arrays[usize::from(array)];
-    let cell = (u32::from(first).wrapping_add(index as u32)) as usize & (MAX_CELLS - 1);
-    ((index as u32) < u32::from(length)).then_some(cell)
-}
-
-/// Whether a condition holds: a comparison of a scalar with a constant or a scalar needs no call.
-#[inline(always)]
-pub fn worth(tables: &Tables, store: &Store, at: u16) -> Result<bool, i32> {
-    let here = usize::from(at);
-    let file = &tables.file;
-    if file[here] == 3 && file[here + 2] == 1 && file[here + 1] >= 10 {
-        let left = scalar(tables, store, here + 3);
-        match file[here + 5] {
-            0 => return Ok(compared(file[here + 1], left, constant(tables, here + 6))),
-            1 => {
-                return Ok(compared(
-                    file[here + 1],
-                    left,
-                    scalar(tables, store, here + 6),
-                ))
-            }
-            _ => {}
-        }
-    }
-    match operand(tables, store, at) {
-        Ok((value, _)) => Ok(value != 0),
-        Err(number) => Err(number),
-    }
-}
-
-/// For each operator that compares, what it says of less, equal and more: bits 31, 0 and 1, which shifts by -1, 0 and 1 bring
-/// to the lowest place.
-const HOLDS: [u32; 256] = {
-    let (less, equal, more) = (1 << 31, 1, 2);
-    let mut holds = [0; 256];
-    holds[10] = less;
-    holds[11] = more;
-    holds[12] = equal;
-    holds[13] = less | more;
-    holds[14] = less | equal;
-    holds[15] = more | equal;
-    holds
-};
-
-#[inline(always)]
-fn compared(operator: u8, left: i32, right: i32) -> bool {
-    let order = left.cmp(&right) as i32 as u32;
-    HOLDS[usize::from(operator)].wrapping_shr(order) & 1 != 0
-}
-
-/// The cell of an array that a SET changes and by what: its index and then its expression, which stand at the position. Or
-/// no cell, and the number that refuses it.
-#[cold]
+/// Any expression, with no quick way.
 #[inline(never)]
-pub fn entry_change(tables: &Tables, store: &Store, array: u8, at: u16) -> (usize, i32) {
-    let here = usize::from(at);
-    let index = match leaf(tables, store, here) {
-        Some(told) => Ok(told),
-        None => match pair(tables, store, here) {
-            Some(told) => Ok(told),
-            None => answer(value(tables, store, here)),
-        },
-    };
-    let (index, next) = match index {
+fn deep(run: &Run, at: usize) -> Both {
+    if at >= END {
+        return both(0, at);
+    }
+    match run.file[at] {
+        0 => return both(constant(run, at + 1), at + 5),
+        1 => return both(scalar(run, at + 1), at + 3),
+        2 => return entry(run, at),
+        _ => {}
+    }
+    let (left, middle) = match operand(run, at + 2) {
         Ok(told) => told,
-        Err(number) => return (MAX_CELLS, number),
+        Err(number) => return both(number, REFUSED),
     };
-    let Some(cell) = cell_at(tables, array, index) else {
-        return (MAX_CELLS, 33);
-    };
-    match operand(tables, store, next as u16) {
-        Ok((change, _)) => (cell, change),
-        Err(number) => (MAX_CELLS, number),
+    match operand(run, middle) {
+        Ok((right, next)) => apply(run.file[at + 1], left, right, next),
+        Err(number) => both(number, REFUSED),
     }
 }
 
+/// A scalar compared with a constant: which comparisons hold, and the bit of the one that is asked. Numbers turned so that one
+/// test tells the operator and that it compares, another the scalar, that it is one, and the constant behind it.
 #[inline(always)]
-fn apply(operator: u8, left: i32, right: i32, next: usize) -> Told {
-    match plain(operator, left, right) {
-        Some(value) => (value, next),
-        None => divided(operator, left, right, next),
+pub fn comparison(run: &Run, at: usize) -> Option<(u32, u32)> {
+    if at >= QUICK {
+        cold_path();
+        return None;
     }
+    let head = u32::from(u16::from_le_bytes(bytes(run, at)));
+    let operator = head.wrapping_sub(0x0A03).rotate_right(8);
+    if operator > 5 {
+        cold_path();
+        return None;
+    }
+    let sides = u64::from(u32::from_le_bytes(bytes(run, at + 2)));
+    let number = sides.wrapping_sub(1).rotate_right(8);
+    let left = run.cells.get(number as usize)?;
+    Some((comparisons(*left, constant(run, at + 6)), operator))
 }
 
-/// Any operator but a division.
-#[inline(always)]
-fn plain(operator: u8, left: i32, right: i32) -> Option<i32> {
-    Some(match operator & 15 {
-        0 => left.wrapping_add(right),
-        1 => left.wrapping_sub(right),
-        2 => left ^ right,
-        3 => left.wrapping_mul(right),
-        4 | 5 => return None,
-        6 => left & right,
-        7 => left | right,
-        8 => i32::from(left != 0 && right != 0),
-        9 => i32::from(left != 0 || right != 0),
-        10 => i32::from(left < right),
-        11 => i32::from(left > right),
-        12 => i32::from(left == right),
-        13 => i32::from(left != right),
-        14 => i32::from(left <= right),
-        _ => i32::from(left >= right),
-    })
-}
-
-#[cold]
+/// The cell that a SET of an entry changes and by what: its index, then its expression. Or no cell, and the number that refuses.
 #[inline(never)]
-fn divided(operator: u8, left: i32, right: i32, next: usize) -> Told {
-    if right == 0 {
-        return (32, REFUSED);
+pub fn entry_change(run: &Run, array: usize, at: usize) -> Both {
+    if at >= QUICK {
+        cold_path();
+        return index_first(run, array, at);
     }
-    let quotient = quotient(left, right);
-    match operator {
-        4 => (quotient, next),
-        _ => (left.wrapping_sub(quotient.wrapping_mul(right)), next),
+    let Some((index, next)) = near(run, at) else {
+        return index_first(run, array, at);
+    };
+    let Some(cell) = cell_at(run, array, index) else {
+        cold_path();
+        return both(33, NOWHERE);
+    };
+    match leaf(run, next) {
+        Some((change, _)) => both(change, cell),
+        None => change_last(run, next, cell),
     }
 }
 
-/// Rounded towards minus infinity; the divisor is not zero.
-#[inline(always)]
-fn quotient(left: i32, right: i32) -> i32 {
-    let towards_zero = left.wrapping_div(right);
-    let rest = left.wrapping_rem(right);
-    match rest != 0 && (rest < 0) != (right < 0) {
-        true => towards_zero - 1,
-        false => towards_zero,
+/// The same where the index needs a call.
+#[inline(never)]
+fn index_first(run: &Run, array: usize, at: usize) -> Both {
+    let (index, next) = match operand(run, at) {
+        Ok(told) => told,
+        Err(number) => return both(number, NOWHERE),
+    };
+    match cell_at(run, array, index) {
+        Some(cell) => change_last(run, next, cell),
+        None => both(33, NOWHERE),
+    }
+}
+
+/// The same where the expression needs one.
+#[inline(never)]
+fn change_last(run: &Run, at: usize, cell: usize) -> Both {
+    match apart(value(run, at)) {
+        (number, REFUSED) => both(number, NOWHERE),
+        (change, _) => both(change, cell),
     }
 }

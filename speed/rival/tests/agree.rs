@@ -2,8 +2,7 @@
 #![forbid(unsafe_code)]
 
 use rival::machine::{run, Place};
-use rival::table::Program;
-use rival::value::MAX_CELLS;
+use rival::map::{Program, MAX_CELLS};
 use second::check::check;
 use second::generator;
 use second::machine;
@@ -53,11 +52,11 @@ fn seconds(place: &Place) -> place::Place {
 
 /// The same run by both: steps, reason, place with its unused slots, every cell.
 fn agree(file: &[u8], told: &program::Program, from: &place::Place, store: &[i32], n: u32) {
-    let rival = Program::new(file).expect("sound");
+    let mut rival = Program::new(file).expect("sound");
     assert_eq!(rival.cells, store.len());
     let (mut place, mut own) = (rivals(from), [0; MAX_CELLS]);
     own[..store.len()].copy_from_slice(store);
-    let (steps, reason) = run(&rival, &mut place, &mut own, n);
+    let (steps, reason) = run(&mut rival, &mut place, &mut own, n);
     let mut expected = store.to_vec();
     let ran = machine::run(told, from, &mut expected, n);
     let stop = ran.reason.map_or(0, |number| number.value());
@@ -113,9 +112,9 @@ fn it_runs_the_workloads_alike_and_the_files_are_the_builders() {
 #[test]
 fn the_workloads_make_more_than_ten_million_steps_and_end() {
     for workload in workloads::all() {
-        let program = Program::new(&workload.tree.encode()).expect("sound");
+        let mut program = Program::new(&workload.tree.encode()).expect("sound");
         let mut store = [0; MAX_CELLS];
-        let (steps, reason) = run(&program, &mut Place::start(), &mut store, u32::MAX);
+        let (steps, reason) = run(&mut program, &mut Place::start(), &mut store, u32::MAX);
         assert!(steps >= 10_000_000 && reason == 30, "{}", workload.name);
     }
 }
