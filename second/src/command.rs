@@ -1,4 +1,4 @@
-//! The command line of issue 2: words, files, formats and the order of complaints.
+//! The command line: words, files, formats and the order of complaints.
 
 use crate::calls::read_session;
 use crate::check::{check, MAX_FILE};
