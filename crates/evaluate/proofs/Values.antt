@@ -1,10 +1,11 @@
 -- The answers of `entry_of`, `leaf`, `value`, `read`, `operated` and `amount`, case by case, over plain numbers and lists. Assumes nothing.
 use mathlib.Core.Path.{_≡_, refl, sym, ap, ap₂, _∙_}
 use mathlib.Core.List.{List}
-use mathlib.Core.Bool.{Bool, true, false, false≢true, true≢false}
+use mathlib.Core.Bool.{Bool, true, false, cond, false≢true, true≢false}
 use Prim.Native.Nat.{ℕ, _+_, _-_, _^_, _≤_, _<_}
 use native.Mathlib.Nat.{add-comm}
 use native.Mathlib.Omega.{arith}
+use native.Mathlib.Decide.{ℕ-discrete}
 use borrow.Author.Tests.{lt-ltb, le-ltb, ltb-true, eq-eqb, ne-eqb}
 use lib.Dec.{eqb, ltb}
 use lib.IntN.{ℤ, pos, negsuc}
@@ -26,7 +27,7 @@ use Rattle.expr.specs.Bytes.{Got, upTo}
 use Rattle.expr.specs.Answers.{InCell}
 use Rattle.expr.proofs.Agree.{worth-fits}
 use Rattle.expr.proofs.Layer.{upto-none, upto-out, upto-con, upto-var, upto-read, upto-bin}
-use Rattle.evaluate.specs.Answers.{arraysOf, worthAt, packedWorth, unpacked, entryIf, entryOf, movedTo, WorthSays, OnTheWay, readAt, bothAt, leafOf, leafEnd}
+use Rattle.evaluate.specs.Answers.{arraysOf, worthAt, packedWorth, unpacked, entryIf, entryOf, movedTo, WorthSays, OnTheWay, readAt, bothAt, leafOf, leafEnd, LeafSays}
 use Rattle.evaluate.specs.declared.Entry.{Entry}
 use Rattle.evaluate.specs.declared.Entry.the-variants.{At, Outside}
 
@@ -100,7 +101,7 @@ module _ (A : Arrays) (C : List ℤ) (a : ℕ) where
   given (pos i) c e = go (ltb i (getD (A .lengths) a 0)) e
     where
       go : (b : Bool) → At c ≡ entryIf b (getD (A .starts) a 0 + i)
-          → mathlib.Core.Bool.cond b (value (getD C (getD (A .starts) a 0 + i) (pos 0))) (stop badIndex) ≡ value (getD C c (pos 0))
+          → cond b (value (getD C (getD (A .starts) a 0 + i) (pos 0))) (stop badIndex) ≡ value (getD C c (pos 0))
       go true e = let k : c ≡ getD (A .starts) a 0 + i = cc in rw k
       go false e = let k : _≡_ {A = ℕ} 0 1 = cc in absurd (omega arith)
   given (negsuc i) c e = let k : _≡_ {A = ℕ} 0 1 = cc in absurd (omega arith)
@@ -110,31 +111,35 @@ module _ (A : Arrays) (C : List ℤ) (a : ℕ) where
   none (pos i) e = go (ltb i (getD (A .lengths) a 0)) e
     where
       go : (b : Bool) → Outside ≡ entryIf b (getD (A .starts) a 0 + i)
-          → mathlib.Core.Bool.cond b (value (getD C (getD (A .starts) a 0 + i) (pos 0))) (stop badIndex) ≡ stop badIndex
+          → cond b (value (getD C (getD (A .starts) a 0 + i) (pos 0))) (stop badIndex) ≡ stop badIndex
       go true e = let k : _≡_ {A = ℕ} 0 1 = cc in absurd (omega arith)
       go false e = refl
   none (negsuc i) e = refl
 
 -- ---- `leaf`
 module _ (s : List ℕ) (at : ℕ) (C : List ℤ) (tag : ℕ) (tg : tag ≡ getD s at 0) (v : ℤ) (f : SFits w32 v) where
-  pub leaf-con : tag ≡ 0 → v ≡ cellAt s (at + 1) → (again v ≡ leafOf s at C) × (at + 5 ≡ leafEnd s at)
-  leaf-con e p = rw (eq-eqb (getD s at 0) 0 (sym tg ∙ e)) (toZ-ofZ f ∙ p, refl)
+  pub leaf-con : tag ≡ 0 → v ≡ cellAt s (at + 1) → LeafSays s at C (again v) (at + 5)
+  leaf-con e p =
+      let z = eq-eqb (getD s at 0) 0 (sym tg ∙ e) in
+      record { answer = rw z (toZ-ofZ f ∙ p); place = rw z }
 
-  pub leaf-var : (x : ℕ) → (tag ≡ 0 → ⊥) → v ≡ getD C x (pos 0) → x ≡ word16 s (at + 1) → (again v ≡ leafOf s at C) × (at + 3 ≡ leafEnd s at)
-  leaf-var x n p q = rw (ne-eqb (getD s at 0) 0 (λ e. n (tg ∙ e))) (rw (← q) (toZ-ofZ f ∙ p), refl)
+  pub leaf-var : (x : ℕ) → (tag ≡ 0 → ⊥) → v ≡ getD C x (pos 0) → x ≡ word16 s (at + 1) → LeafSays s at C (again v) (at + 3)
+  leaf-var x n p q =
+      let z = ne-eqb (getD s at 0) 0 (λ e. n (tg ∙ e)) in
+      record { answer = rw (z, ← q) (toZ-ofZ f ∙ p); place = rw z }
 
 pub ruleset leaves = (leaf-con, leaf-var)
 
 -- a constant or scalar is read at any depth
 module _ (A : List ℕ) (C : List ℤ) (s : List ℕ) (at d : ℕ) (nz : d ≡ 0 → ⊥) (near : at < 32768) (small : getD s at 0 < 2) where
-  abbrev Flat : Type 0
-  Flat = (worthAt A C (upTo 32768 d s at) ≡ value (leafOf s at C)) × (upTo 32768 d s at .next ≡ leafEnd s at)
+  abbrev Leaf : Type 0
+  Leaf = (worthAt A C (upTo 32768 d s at) ≡ value (leafOf s at C)) × (upTo 32768 d s at .next ≡ leafEnd s at)
 
-  pub leaf-read : Flat
-  leaf-read = go (native.Mathlib.Decide.ℕ-discrete (getD s at 0) 0)
+  pub leaf-read : Leaf
+  unfolding eval
+  leaf-read = go (ℕ-discrete (getD s at 0) 0)
     where
-      go : Dec (getD s at 0 ≡ 0) → Flat
-      unfolding eval
+      go : Dec (getD s at 0 ≡ 0) → Leaf
       go (yes e) = rw (upto-con 32768 s at near (getD s at 0) refl d nz e, e) (refl, refl)
       go (no n) = rw (upto-var 32768 s at near (getD s at 0) refl d nz (omega arith), ne-eqb (getD s at 0) 0 n) (refl, refl)
 
@@ -187,7 +192,7 @@ module _ (A : List ℕ) (C : List ℤ) (b : ℕ) (g : Got) (i : ℤ) (after : �
 pub ruleset reads = (read-stop, read-in, read-outside)
 
 -- ---- `operated`
-packed-worth : (v : Value) → packed v ≡ packedWorth (worthOf v)
+pub packed-worth : (v : Value) → packed v ≡ packedWorth (worthOf v)
 packed-worth (is v) = refl
 packed-worth zeroDivisor = refl
 
@@ -226,32 +231,32 @@ pub ruleset operateds = (left-stop, right-stop, both-value)
 
 -- ---- `value`
 module _ (A : List ℕ) (C : List ℤ) (s : List ℕ) (at d : ℕ) where
-  abbrev Goes : ℤ → ℕ → Type 0
-  Goes r after = OnTheWay (worthAt A C (upTo 32768 d s at)) (upTo 32768 d s at .next) r after
+  abbrev Runs : ℤ → ℕ → Type 0
+  Runs r after = OnTheWay (worthAt A C (upTo 32768 d s at)) (upTo 32768 d s at .next) r after
 
-  pub value-none : d ≡ 0 → Goes (pos 0) at
+  pub value-none : d ≡ 0 → Runs (pos 0) at
   unfolding eval
   value-none e = rw (upto-none 32768 d s at e) (record { answer = refl; range = sfits-lit tt; place = refl })
 
-  pub value-out : 32768 ≤ at → Goes (pos 0) at
+  pub value-out : 32768 ≤ at → Runs (pos 0) at
   unfolding eval
   value-out h = rw (upto-out 32768 d s at h) (record { answer = refl; range = sfits-lit tt; place = refl })
 
   module _ (nz : d ≡ 0 → ⊥) (near : at < 32768) (tag : ℕ) (tg : tag ≡ getD s at 0) where
-    pub value-leaf : (v : ℤ) (after : ℕ) → tag < 2 → SFits w32 v → (v ≡ leafOf s at C) × (after ≡ leafEnd s at) → Goes (again64 (again v)) after
+    pub value-leaf : (v : ℤ) (after : ℕ) → tag < 2 → SFits w32 v → LeafSays s at C v after → Runs (again64 (again v)) after
     value-leaf v after k f o =
         let q = leaf-read A C s at d nz near (rw (← tg) k) in
-        way-value _ _ v after (q .0 ∙ ap value (sym (o .0))) f (o .1 ∙ sym (q .1))
+        way-value _ _ v after (q .0 ∙ ap value (sym (o .answer))) f (o .place ∙ sym (q .1))
 
     pub value-read : (r : ℤ) (after : ℕ) → tag ≡ 2 → SFits w64 r
-        → OnTheWay (readAt A C (word16 s (at + 1)) (upTo 32768 (d - 1) s (at + 3))) (upTo 32768 (d - 1) s (at + 3) .next) r after → Goes (again64 r) after
+        → OnTheWay (readAt A C (word16 s (at + 1)) (upTo 32768 (d - 1) s (at + 3))) (upTo 32768 (d - 1) s (at + 3) .next) r after → Runs (again64 r) after
     unfolding eval
     value-read r after e f o = rw (upto-read 32768 s at near tag tg d nz e) (way-on _ _ r after f o)
 
     pub value-bin : (r : ℤ) (after : ℕ) → 2 ≤ tag → (tag ≡ 2 → ⊥) → SFits w64 r
         → OnTheWay (bothAt A C (getD s (at + 1) 0) (upTo 32768 (d - 1) s (at + 2)) (upTo 32768 (d - 1) s (upTo 32768 (d - 1) s (at + 2) .next)))
         (upTo 32768 (d - 1) s (upTo 32768 (d - 1) s (at + 2) .next) .next) r after
-        → Goes (again64 r) after
+        → Runs (again64 r) after
     unfolding eval
     value-bin r after big n2 f o = rw (upto-bin 32768 s at near tag tg d nz (λ e. omega arith) (λ e. omega arith) n2) (way-on _ _ r after f o)
 

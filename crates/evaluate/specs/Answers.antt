@@ -81,9 +81,16 @@ leafOf s at cells = cond (eqb (getD s at 0) 0) (cellAt s (at + 1)) (getD cells (
 abbrev pub leafEnd : List ℕ → ℕ → ℕ
 leafEnd s at = cond (eqb (getD s at 0) 0) (at + 5) (at + 3)
 
--- ---- `flat`: an operator on two constants or scalars stands at `at`
-abbrev pub Flat : List ℕ → ℕ → Bool → Type 0
-Flat s at r = r ≡ true → (at + 7 < 32768) × ((getD s at 0 ≡ 3) × ((getD s (at + 2) 0 < 2) × (getD s (leafEnd s (at + 2)) 0 < 2)))
+pub record LeafSays (s : List ℕ) (at : ℕ) (cells : List ℤ) (r : ℤ) (after : ℕ) : Type 0 where
+  pub answer : r ≡ leafOf s at cells
+  pub place : after ≡ leafEnd s at
+
+-- ---- `flat`: where the answer is yes, an operator on two constants or scalars stands at `at`
+abbrev pub FlatAt : List ℕ → ℕ → Type 0
+FlatAt s at = (at + 7 < 32768) × ((getD s at 0 ≡ 3) × ((getD s (at + 2) 0 < 2) × (getD s (leafEnd s (at + 2)) 0 < 2)))
+
+pub record Flat (s : List ℕ) (at : ℕ) (r : Bool) : Type 0 where
+  pub stands : r ≡ true → FlatAt s at
 
 -- ---- `verdict`: some worth's number, and what it says as a condition
 pub record Packed (w : ℤ) : Type 0 where

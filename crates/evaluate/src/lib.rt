@@ -9,7 +9,7 @@ ghost use lib.IntN.{pos};
 ghost use lib.ListN.{getD};
 ghost use Rattle.codes.specs.Codes.{word16};
 ghost use Rattle.expr.specs.Bytes.{upTo};
-ghost use Rattle.evaluate.specs.Answers.{arraysOf, entryOf, leafOf, leafEnd, worthAt, readAt, bothAt, OnTheWay, WorthSays, Packed, Verdict, truthOf, Flat};
+ghost use Rattle.evaluate.specs.Answers.{arraysOf, entryOf, LeafSays, worthAt, readAt, bothAt, OnTheWay, WorthSays, Packed, Verdict, truthOf, Flat};
 
 // Where the bytes of a program end at the latest.
 const ROOM: usize = 32768;
@@ -59,7 +59,7 @@ pub fn entry_of(arrays: &[u16; 32], a: usize, index: i32) -> Entry
 // What the constant or scalar at `*at` holds; `*at` is moved behind it.
 fn leaf(bytes: &[u8; 32784], at: &mut usize, cells: &[i32; 2048]) -> i32
     requires { ⌜ now at < 32768 ⌝ }
-    ensures { λ r. ⌜ (r ≡ leafOf (now (bytes .entry)) (now (at .entry)) (now (cells .entry))) × (now (at .exit) ≡ leafEnd (now (bytes .entry)) (now (at .entry))) ⌝ }
+    ensures { λ r. ⌜ LeafSays (now (bytes .entry)) (now (at .entry)) (now (cells .entry)) r (now (at .exit)) ⌝ }
 {
     let p = *at;
     if byte(bytes, p) == 0 {
