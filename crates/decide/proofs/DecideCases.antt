@@ -8,8 +8,8 @@ use borrow.Author.Tests.{eq-eqb, ne-eqb, lt-ltb, le-ltb, le-leb, lt-leb, eqb-tru
 use lib.Dec.{eqb, leb, ltb}
 use lib.ListN.{getD, set}
 use lib.Seq.{set-getD}
-use Rattle.expr.specs.Bytes.{within}
-use Rattle.expr.specs.Answers.{worthAt, truthOf}
+use Rattle.expr.specs.Bytes.{upTo}
+use Rattle.evaluate.specs.Answers.{worthAt, truthOf}
 use Rattle.place.specs.Methods.{topAt}
 use Rattle.moves.specs.Stores.{Answer, ok, no, number, Store}
 use Rattle.decide.specs.Sets.{Leaves, setEntry}
@@ -263,9 +263,9 @@ pub ruleset sets = (assigned-done, assigned-not, cell-is, entry-set)
 -- ---- `looped` and `tested`; what asks for less than the whole frame answers the same of it
 module _ (s : Spot) (f arr map : List ℕ) (σ : Store) (m : Move) (ks ls ks′ ls′ : List ℕ) (a : ℕ) where
   abbrev Told : (Sight → ℕ → ℕ → List ℕ → Doing) → Type 0
-  Told X = Does (X (sight s ks ls) a (truthOf (worthAt arr σ (within 32768 f (exprIn map (s .way))))) map) ks ls m ks′ ls′
+  Told X = Does (X (sight s ks ls) a (truthOf (worthAt arr σ (upTo 32768 16 f (exprIn map (s .way))))) map) ks ls m ks′ ls′
 
-  module _ (v at : ℕ) (vv : v ≡ truthOf (worthAt arr σ (within 32768 f at))) (ii : at ≡ exprIn map (s .way)) where
+  module _ (v at : ℕ) (vv : v ≡ truthOf (worthAt arr σ (upTo 32768 16 f at))) (ii : at ≡ exprIn map (s .way)) where
     module _ (low : v < 2) where
       pub told-8 : a ≡ 8 → Does (openedIn (sight s ks ls) v map) ks ls m ks′ ls′ → Told loopedIn
       unfolding loopedIn
@@ -390,7 +390,7 @@ module _ (f map arr : List ℕ) (s : Spot) (ks ls : List ℕ) (σ : Store) (m : 
                       rw (lt-ltb (s .way) 2048 near, ← aa, ne-eqb a 4 n4, ne-eqb a 12 n12, ne-eqb a 14 n14, ne-eqb a 6 n6, ne-eqb a 11 n11, ne-eqb a 3 n3, eq-eqb a 9 e)
                       (record { does = d; left = refl })
 
-                  pub does-test : (a ≡ 9 → ⊥) → Does (testedIn (sight s ks ls) a (truthOf (worthAt arr σ (within 32768 f (exprIn map (s .way))))) map) ks ls m ks′ ls′ → Decides ks′ ls′ σ
+                  pub does-test : (a ≡ 9 → ⊥) → Does (testedIn (sight s ks ls) a (truthOf (worthAt arr σ (upTo 32768 16 f (exprIn map (s .way))))) map) ks ls m ks′ ls′ → Decides ks′ ls′ σ
                   unfolding ruleIn sight
                   does-test n9 d =
                       rw (lt-ltb (s .way) 2048 near, ← aa, ne-eqb a 4 n4, ne-eqb a 12 n12, ne-eqb a 14 n14, ne-eqb a 6 n6, ne-eqb a 11 n11, ne-eqb a 3 n3, ne-eqb a 9 n9)

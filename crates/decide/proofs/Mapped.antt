@@ -7,8 +7,8 @@ use native.Mathlib.Omega.{arith}
 use borrow.Author.Tests.{lt-ltb, eqb-true, eqb-false}
 use lib.Dec.{eqb, leb, ltb}
 use lib.ListN.{getD}
-use Rattle.expr.specs.Bytes.{within}
-use Rattle.expr.specs.Answers.{worthAt, truthOf}
+use Rattle.expr.specs.Bytes.{upTo}
+use Rattle.evaluate.specs.Answers.{worthAt, truthOf}
 use Rattle.records.specs.Faults.{word}
 use Rattle.moves.specs.Stores.{Answer, ok, no, number, Store}
 use Rattle.ways.specs.Looks.{operatorAt, lookIn, alongOf, otherOf, gateOf, procAt, resumedOf, wayTo}
@@ -142,7 +142,7 @@ module _ (f tab arr m : List ℕ) (n : ℕ) (M : Maps f tab n m) (small : n ≤ 
       O = operatorAt (getD f (lookIn tab b + 4) 0) d
 
       abbrev X : ℕ → Answer Store
-      X o = setTo (word f (lookIn tab b + 6)) o σ (worthAt arr σ (within 32768 f (lookIn tab b + 8)))
+      X o = setTo (word f (lookIn tab b + 6)) o σ (worthAt arr σ (upTo 32768 16 f (lookIn tab b + 8)))
 
       -- any operator over 1 is exclusive
       exclusive : (o : ℕ) → eqb o 0 ≡ false → eqb o 1 ≡ false → X 2 ≡ X o
@@ -410,7 +410,7 @@ module _ (f tab arr m : List ℕ) (n : ℕ) (M : Maps f tab n m) (small : n ≤ 
       unfolding ruleIn ruleOf
       testing a (a4, a12, a14, a6, a11, a3, a9) T =
           rw (near, low, act, T .0, a4, a12, a14, a6, a11, a3, a9, e4, e13, e11, e12, e3, expr-in f tab m n M small b d hb hd, expr-test)
-          (by-move _ _ (T .1 (truthOf (worthAt arr σ (within 32768 f (lookIn tab b + 4))))))
+          (by-move _ _ (T .1 (truthOf (worthAt arr σ (upTo 32768 16 f (lookIn tab b + 4))))))
 
       by-8 : eqb K 5 ≡ false → eqb K 7 ≡ false → (t u : Bool) → eqb K 8 ≡ t → eqb d 0 ≡ u → Agree
       by-8 e5 e7 true true h D = testing 8 (refl, refl, refl, refl, refl, refl, refl) (from-act (eqb-true K 8 h) true D, from-tests (eqb-true K 8 h) true D)

@@ -3,8 +3,8 @@ use mathlib.Core.Path.{_≡_, refl, ap, _∙_}
 use mathlib.Core.List.{List}
 use Prim.Native.Nat.{ℕ, _+_, _≤_, _<_}
 use borrow.Author.Tests.{eq-eqb, ne-eqb, lt-ltb, le-leb, lt-leb}
-use Rattle.expr.specs.Bytes.{within}
-use Rattle.expr.specs.Answers.{worthAt, truthOf}
+use Rattle.expr.specs.Bytes.{upTo}
+use Rattle.evaluate.specs.Answers.{worthAt, truthOf}
 use Rattle.moves.specs.Stores.{Answer, ok, no, Store}
 use Rattle.decide.specs.Sets.{Leaves, setAt}
 use Rattle.ways.specs.Looks.{lookIn, otherOf, alongOf, procAt}
@@ -42,7 +42,7 @@ module _ (f tab arr : List ℕ) (s : Seen) (σ : Store) (k at : ℕ) (kk : k ≡
           unfolding ruleOf
           rule-return e h = rw (lt-ltb (s .b) 1024 nb, ← kk, ne-eqb k 4 n4, ne-eqb k 13 n13, ne-eqb k 11 n11, ne-eqb k 12 n12, le-leb k 3 e) (record { made = h; left = refl })
 
-          pub rule-test : (v : ℕ) → 3 < k → m ≡ testedOf s k v tab → v ≡ truthOf (worthAt arr σ (within 32768 f (at + 4))) → Says σ
+          pub rule-test : (v : ℕ) → 3 < k → m ≡ testedOf s k v tab → v ≡ truthOf (worthAt arr σ (upTo 32768 16 f (at + 4))) → Says σ
           unfolding ruleOf
           rule-test v e h n = rw (lt-ltb (s .b) 1024 nb, ← kk, ne-eqb k 4 n4, ne-eqb k 13 n13, ne-eqb k 11 n11, ne-eqb k 12 n12, lt-leb k 3 e, ← aa, ← n) (record { made = h; left = refl })
 

@@ -2,23 +2,25 @@
 use mathlib.Core.Path.{_≡_, refl, sym, ap, _∙_}
 use mathlib.Core.List.{List}
 use mathlib.Core.Bool.{true, false, false≢true, true≢false}
-use Prim.Native.Nat.{ℕ, zero, suc, _+_, _≤_, _<_}
-use native.Mathlib.Nat.{add-comm}
+use Prim.Native.Nat.{ℕ, zero, suc, _≤_}
 use native.Mathlib.Omega.{arith}
-use borrow.Author.Tests.{eq-eqb, ne-eqb, lt-ltb, le-ltb, ltb-true}
+use borrow.Author.Tests.{eq-eqb, ne-eqb, ltb-true}
 use lib.IntN.{ℤ, pos, negsuc, _+ℤ_, _-ℤ_}
-use lib.ListN.{length, getD, take, drop, length-take, List·getD-eq-default, set as put}
-use lib.Seq.{getD-take, getD-drop, set-out}
+use lib.ListN.{length, getD, set as put}
+use lib.Seq.{set-out}
 use lib.Signed.{ltZ}
 use mir.Syntax.{w32, w64}
 use mir.Val.{SFits, ofZ, toZ}
 use mir.Facts.{toZ-ofZ}
 use Rattle.values.specs.Values.{wrap, xorZ}
 use Rattle.expr.specs.Tree.{Fault, byZero, badIndex as outside, Worth, value, stop}
-use Rattle.expr.specs.Bytes.{Got, within}
-use Rattle.expr.specs.Answers.{packedWorth, InCell, arraysOf, worthAt, WorthSays, movedTo}
-use Rattle.moves.specs.Stores.{Answer, ok, no, Reason, number, bind, Store, answered, reasonOf, applied}
-use Rattle.decide.specs.Sets.{worked, faultOf, entryBy, EntrySays, Leaves, setTo, setEntry}
+use Rattle.expr.specs.Bytes.{Got, upTo}
+use Rattle.expr.specs.Answers.{InCell}
+use Rattle.evaluate.specs.Answers.{packedWorth, arraysOf, worthAt, entryOf, WorthSays, movedTo}
+use Rattle.evaluate.specs.declared.Entry.{Entry}
+use Rattle.evaluate.specs.declared.Entry.the-variants.{At, Outside}
+use Rattle.moves.specs.Stores.{ok, no, Reason, number, bind, Store, answered, reasonOf, applied}
+use Rattle.decide.specs.Sets.{worked, faultOf, Leaves, setEntry}
 use Rattle.decide.specs.Ways.{setCell}
 
 -- a signed number that was put in a variable, a field or an argument is read back from its bits
@@ -54,40 +56,6 @@ pub apply-exclusive : (o : ℕ) (x v r : ℤ) → SFits w32 x → SFits w32 v �
 apply-exclusive o x v r fx fv fr h k p = toZ-ofZ fr ∙ p ∙ rw (toZ-ofZ fx, toZ-ofZ fv) (other o x v h k)
 
 pub ruleset applies = (apply-sum, apply-difference, apply-exclusive)
-
--- ---- `cell_of`: the cell of an array at an index
-module _ (l : List ℕ) (a : ℕ) where
-  far : (m : List ℕ) → 16 ≤ a → getD (take 16 m) a 0 ≡ 0
-  far m h = List·getD-eq-default (take 16 m) 0 (simp length-take (omega arith))
-
-  near-start : a < 16 → getD (arraysOf l .starts) a 0 ≡ getD l a 0
-  near-start h = getD-take 16 l a 0 h
-
-  near-length : a < 16 → getD (arraysOf l .lengths) a 0 ≡ getD l (a + 16) 0
-  near-length h = getD-take 16 (drop 16 l) a 0 h ∙ getD-drop 16 l a 0 ∙ ap (λ (i : ℕ). getD l i 0) (add-comm 16 a)
-
-  missed : (z : ℤ) (i : ℕ) → i ≡ ofZ w32 z → getD (arraysOf l .lengths) a 0 ≤ i → EntrySays (entryBy (arraysOf l) a z) 131072
-  missed (pos n) i e h = rw (le-ltb n (getD (arraysOf l .lengths) a 0) (omega arith)) (refl, refl)
-  missed (negsuc n) i e h = (refl, refl)
-
-  hit : (z : ℤ) (i : ℕ) → SFits w32 z → i ≡ ofZ w32 z → i < getD (arraysOf l .lengths) a 0 → getD (arraysOf l .lengths) a 0 < 65536
-      → (start : ℕ) → start ≡ getD (arraysOf l .starts) a 0 → start < 65536 → EntrySays (entryBy (arraysOf l) a z) (start + i)
-  hit (pos n) i f e h k start s b = rw (lt-ltb n (getD (arraysOf l .lengths) a 0) (omega arith)) (cc, omega arith)
-  hit (negsuc n) i f e h k start s b = absurd (omega arith)
-
-module _ (l : List ℕ) (a : ℕ) (z : ℤ) where
-  pub entry-far : 16 ≤ a → EntrySays (entryBy (arraysOf l) a z) 131072
-  entry-far h = missed l a z (ofZ w32 z) refl (omega (arith, far l a (drop 16 l) h))
-
-  module _ (f : SFits w32 z) (h : a < 16) (i n : ℕ) (ii : i ≡ ofZ w32 (again z)) (nn : n ≡ getD l (a + 16) 0) where
-    pub entry-out : n ≤ i → EntrySays (entryBy (arraysOf l) a z) 131072
-    entry-out k = missed l a z i (ii ∙ ap (ofZ w32) (toZ-ofZ f)) (omega (arith, near-length l a h))
-
-    pub entry-in : (start : ℕ) → i < n → n < 65536 → start < 65536 → start ≡ getD l a 0 → EntrySays (entryBy (arraysOf l) a z) (start + i)
-    entry-in start k small b ss =
-        hit l a z i f (ii ∙ ap (ofZ w32) (toZ-ofZ f)) (omega (arith, near-length l a h)) (omega (arith, near-length l a h)) start (ss ∙ sym (near-start l a h)) b
-
-pub ruleset entries = (entry-far, entry-out, entry-in)
 
 -- ---- what `worth` answers, by the test that tells
 module _ (r : ℤ) (f : SFits w64 r) where
@@ -131,7 +99,7 @@ module _ (r : ℤ) (f : SFits w64 r) (arr : List ℕ) (cs : List ℤ) (at : ℕ)
       let back : again (again64 r) ≡ r = ap again (toZ-ofZ f) ∙ toZ-ofZ (s .1) in
       (ap answered (s .0) ∙ ap ok (sym back), says .place ∙ ap (λ (w : Worth). movedTo w at (g .next)) (s .0))
 
-module _ (f : List ℕ) (at c o : ℕ) (arr : List ℕ) (σ : Store) (v : ℤ) (fits : SFits w64 v) (after : ℕ) (says : WorthSays arr σ at (within 32768 f at) v after) where
+module _ (f : List ℕ) (at c o : ℕ) (arr : List ℕ) (σ : Store) (v : ℤ) (fits : SFits w64 v) (after : ℕ) (says : WorthSays arr σ at (upTo 32768 16 f at) v after) where
   pub cell-stop : (r : ℕ) → ltZ (pos 2147483647) (again64 v) ≡ true → r ≡ faultOf (ofZ w64 (again64 v)) → Leaves (setCell f at c o arr σ) σ r σ
   unfolding setCell bind
   cell-stop r t e = let s = told-stop v fits _ _ _ _ after says t r e in rw (s .1) (s .2, refl)
@@ -143,28 +111,18 @@ module _ (f : List ℕ) (at c o : ℕ) (arr : List ℕ) (σ : Store) (v : ℤ) (
 pub ruleset cells = (cell-stop, cell-done)
 
 -- the index first, then the cell that it names
-module _ (f : List ℕ) (at a o : ℕ) (arr : List ℕ) (σ : Store) (i : ℤ) (fits : SFits w64 i) (after : ℕ) (says : WorthSays arr σ at (within 32768 f at) i after) where
+module _ (f : List ℕ) (at a o : ℕ) (arr : List ℕ) (σ : Store) (i : ℤ) (fits : SFits w64 i) (after : ℕ) (says : WorthSays arr σ at (upTo 32768 16 f at) i after) where
   pub entry-stop : (r : ℕ) → ltZ (pos 2147483647) (again64 i) ≡ true → r ≡ faultOf (ofZ w64 (again64 i)) → Leaves (setEntry f at a o arr σ) σ r σ
   unfolding setEntry bind
   entry-stop r t e = let s = told-stop i fits _ _ _ _ after says t r e in rw (s .1) (s .2, refl)
 
-  module _ (t : ltZ (pos 2147483647) (again64 i) ≡ false) (c : ℕ) where
-    pub entry-none : c ≡ 131072 → EntrySays (entryBy (arraysOf arr) a (again (again64 i))) c → Leaves (setEntry f at a o arr σ) σ 33 σ
+  module _ (t : ltZ (pos 2147483647) (again64 i) ≡ false) (x : Entry) (e : x ≡ entryOf (arraysOf arr) a (again (again64 i))) where
+    pub entry-none : x ≡ Outside → Leaves (setEntry f at a o arr σ) σ 33 σ
     unfolding setEntry bind
-    entry-none e aims = rw (told-value i fits _ _ _ _ after says t .0) (go (entryBy (arraysOf arr) a (again (again64 i))) aims)
-      where
-        go : (x : Answer ℕ) → EntrySays x c → Leaves (bind x (λ c. setTo c o σ (worthAt arr σ (within 32768 f (within 32768 f at .next))))) σ 33 σ
-        go (ok k) h = absurd (omega arith)
-        go (no q) h = rw (h .1) (refl, refl)
+    entry-none q = rw (told-value i fits _ _ _ _ after says t .0, ← e, q) (refl, refl)
 
-    pub entry-done : (c ≡ 131072 → ⊥) → EntrySays (entryBy (arraysOf arr) a (again (again64 i))) c → (r : ℕ) (σ′ : Store) → Leaves (setCell f after c o arr σ) σ r σ′
-        → Leaves (setEntry f at a o arr σ) σ r σ′
+    pub entry-done : (c r : ℕ) (σ′ : Store) → x ≡ At c → Leaves (setCell f after c o arr σ) σ r σ′ → Leaves (setEntry f at a o arr σ) σ r σ′
     unfolding setEntry setCell bind
-    entry-done e aims r σ′ l = let v = told-value i fits _ _ _ _ after says t in rw (v .0) (go (entryBy (arraysOf arr) a (again (again64 i))) aims (v .1))
-      where
-        go : (x : Answer ℕ) → EntrySays x c → after ≡ within 32768 f at .next
-            → Leaves (bind x (λ c. setTo c o σ (worthAt arr σ (within 32768 f (within 32768 f at .next))))) σ r σ′
-        go (ok k) h n = rw (← h .0, ← n) l
-        go (no q) h n = absurd (e (h .0))
+    entry-done c r σ′ q l = let v = told-value i fits _ _ _ _ after says t in rw (v .0, ← e, q, ← v .1) l
 
 pub ruleset entered = (entry-stop, entry-none, entry-done)

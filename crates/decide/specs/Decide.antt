@@ -6,8 +6,8 @@ use mathlib.Core.Path.{_≡_}
 use mathlib.Core.Bool.{Bool, false, cond}
 use lib.ListN.{set}
 use lib.Dec.{ltb, leb, eqb}
-use Rattle.expr.specs.Answers.{worthAt, truthOf}
-use Rattle.expr.specs.Bytes.{within}
+use Rattle.evaluate.specs.Answers.{worthAt, truthOf}
+use Rattle.expr.specs.Bytes.{upTo}
 use Rattle.moves.specs.Stores.{Answer, ok, no, number, Store}
 use Rattle.ways.specs.Looks.{actOf, alongOf, gateOf, leftAt, lookIn, otherOf, procAt, resumedOf}
 use Rattle.decide.specs.Sets.{setAt}
@@ -156,5 +156,5 @@ ruleOf f tab arr s σ =
     (cond (eqb (lookIn tab (1024 + s .b)) 11) (ruled (enteredOf s (procAt f tab (s .b)) (s .direction) tab) σ)
     (cond (eqb (lookIn tab (1024 + s .b)) 12) (ruled (enteredOf s (procAt f tab (s .b)) (otherOf (s .direction)) tab) σ)
     (cond (leb (lookIn tab (1024 + s .b)) 3) (ruled (returnedOf s tab) σ)
-    (ruled (testedOf s (lookIn tab (1024 + s .b)) (truthOf (worthAt arr σ (within 32768 f (lookIn tab (s .b) + 4)))) tab) σ))))))
+    (ruled (testedOf s (lookIn tab (1024 + s .b)) (truthOf (worthAt arr σ (upTo 32768 16 f (lookIn tab (s .b) + 4)))) tab) σ))))))
     (ruled (refusedOf s 21) σ)

@@ -1,14 +1,16 @@
 -- A SET read from the bytes, for any bytes and any arrays. Nothing here has to be believed: machine/proofs/Sets joins it to `assigned`.
-use Prim.Native.Nat.{ℕ, _+_, _<_}
+use Prim.Native.Nat.{ℕ, _+_}
 use mathlib.Core.List.{List}
 use mathlib.Core.Bool.{cond}
 use mathlib.Core.Path.{_≡_}
 use lib.ListN.{getD, set as put}
-use lib.Dec.{ltb, eqb}
-use lib.IntN.{ℤ, pos, negsuc}
+use lib.Dec.{eqb}
+use lib.IntN.{ℤ, pos}
 use Rattle.expr.specs.Tree.{Arrays, Worth}
-use Rattle.expr.specs.Answers.{arraysOf, worthAt}
-use Rattle.expr.specs.Bytes.{within}
+use Rattle.evaluate.specs.Answers.{arraysOf, worthAt, entryOf}
+use Rattle.evaluate.specs.declared.Entry.{Entry}
+use Rattle.evaluate.specs.declared.Entry.the-variants.{At, Outside}
+use Rattle.expr.specs.Bytes.{upTo}
 use Rattle.records.specs.Faults.{word}
 use Rattle.moves.specs.Stores.{Answer, ok, no, number, badIndex, bind, Store, answered, applied}
 use Rattle.ways.specs.Looks.{operatorAt}
@@ -19,14 +21,13 @@ worked σ c o v = put σ c (applied o (getD σ c (pos 0)) v)
 abbrev pub faultOf : ℕ → ℕ
 faultOf n = cond (eqb n 4294967328) 32 33
 
-abbrev pub entryBy : Arrays → ℕ → ℤ → Answer ℕ
-entryBy A a (pos i) = cond (ltb i (getD (A .lengths) a 0)) (ok (getD (A .starts) a 0 + i)) (no badIndex)
-entryBy A a (negsuc i) = no badIndex
+-- the cell of an entry, or that its index is refused
+abbrev pub asAnswer : Entry → Answer ℕ
+asAnswer (At c) = ok c
+asAnswer Outside = no badIndex
 
--- the number r of a cell; 131072 is none
-abbrev pub EntrySays : Answer ℕ → ℕ → Type 0
-EntrySays (ok c) r = (r ≡ c) × (c < 131072)
-EntrySays (no q) r = (r ≡ 131072) × (q ≡ badIndex)
+abbrev pub entryBy : Arrays → ℕ → ℤ → Answer ℕ
+entryBy A a v = asAnswer (entryOf A a v)
 
 -- the number r answered, and the store left
 abbrev pub Leaves : Answer Store → Store → ℕ → Store → Type 0
@@ -38,11 +39,11 @@ setTo c o σ w = bind (answered w) (λ v. ok (worked σ c o v))
 
 unfoldable pub setEntry : List ℕ → ℕ → ℕ → ℕ → List ℕ → Store → Answer Store
 setEntry f at a o arr σ =
-    bind (bind (answered (worthAt arr σ (within 32768 f at))) (λ v. entryBy (arraysOf arr) a v))
-    (λ c. setTo c o σ (worthAt arr σ (within 32768 f (within 32768 f at .next))))
+    bind (bind (answered (worthAt arr σ (upTo 32768 16 f at))) (λ v. entryBy (arraysOf arr) a v))
+    (λ c. setTo c o σ (worthAt arr σ (upTo 32768 16 f (upTo 32768 16 f at .next))))
 
 unfoldable pub setAt : List ℕ → ℕ → ℕ → List ℕ → Store → Answer Store
 setAt f at d arr σ =
     cond (eqb (getD f (at + 5) 0) 0)
-    (setTo (word f (at + 6)) (operatorAt (getD f (at + 4) 0) d) σ (worthAt arr σ (within 32768 f (at + 8))))
+    (setTo (word f (at + 6)) (operatorAt (getD f (at + 4) 0) d) σ (worthAt arr σ (upTo 32768 16 f (at + 8))))
     (setEntry f (at + 8) (word f (at + 6)) (operatorAt (getD f (at + 4) 0) d) arr σ)

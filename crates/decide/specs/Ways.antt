@@ -6,8 +6,8 @@ use mathlib.Core.Path.{_≡_}
 use mathlib.Core.Bool.{Bool, false, cond, Bool·beq as same}
 use lib.ListN.{getD}
 use lib.Dec.{ltb, leb, eqb}
-use Rattle.expr.specs.Answers.{worthAt, truthOf}
-use Rattle.expr.specs.Bytes.{within}
+use Rattle.evaluate.specs.Answers.{worthAt, truthOf}
+use Rattle.expr.specs.Bytes.{upTo}
 use Rattle.place.specs.Methods.{topAt}
 use Rattle.moves.specs.Stores.{Answer, ok, no, number, Store}
 use Rattle.ways.specs.Looks.{labelIn, wayTo}
@@ -197,7 +197,7 @@ afterSet s m σ (no q) = ruled (assignedIn s (number q) m) σ
 
 -- a SET of a cell
 unfoldable pub setCell : List ℕ → ℕ → ℕ → ℕ → List ℕ → Store → Answer Store
-setCell f at c o arr σ = setTo c o σ (worthAt arr σ (within 32768 f at))
+setCell f at c o arr σ = setTo c o σ (worthAt arr σ (upTo 32768 16 f at))
 
 -- a SET by the map: of a cell, with the operator o; of an entry
 unfoldable pub cellIn : List ℕ → List ℕ → List ℕ → Sight → Store → ℕ → Ruled
@@ -217,7 +217,7 @@ ruleIn f m arr s σ =
     (cond (eqb (actIn m (s .way)) 11) (ruled (enteredIn s m) σ)
     (cond (eqb (actIn m (s .way)) 3) (ruled (returnedIn s 0 m) σ)
     (cond (eqb (actIn m (s .way)) 9) (ruled (returnedIn s 1024 m) σ)
-    (ruled (testedIn s (actIn m (s .way)) (truthOf (worthAt arr σ (within 32768 f (exprIn m (s .way))))) m) σ))))))))
+    (ruled (testedIn s (actIn m (s .way)) (truthOf (worthAt arr σ (upTo 32768 16 f (exprIn m (s .way))))) m) σ))))))))
     (ruled (refusedIn s 21) σ)
 
 -- ---- what is decided by the table, as it is said by the map

@@ -3,14 +3,14 @@
 // A way is a label and a direction in one number (the crate `ways`). By it a run looks up all that it needs.
 use crate::set::set_cell;
 use crate::set::set_entry;
-use expr::truth;
+use evaluate::truth;
 use place::top_of;
 use ways::label_of;
 ghost use mathlib.Core.Path.{_≡_};
 ghost use Prim.Native.Nat.{_+_, _<_, _≤_};
 ghost use lib.ListN.{getD};
-ghost use Rattle.expr.specs.Answers.{worthAt, truthOf};
-ghost use Rattle.expr.specs.Bytes.{within};
+ghost use Rattle.evaluate.specs.Answers.{worthAt, truthOf};
+ghost use Rattle.expr.specs.Bytes.{upTo};
 ghost use Rattle.decide.specs.Decide.{moreOf, fewerOf, slotOf, putIn};
 ghost use Rattle.decide.specs.Ways.{depthOf, callsIn, countIn, bare, byKind, byLabel, sight, yesIn, noIn, secondIn, exprIn, told, Does, onTo, refusedIn, chosenIn, closedIn, againIn, openedIn, repeatedIn, enteredIn, backIn, returnedIn, loopedIn, testedIn, assignedIn, Sets, cellIn, entryIn, Rules, ruleIn};
 
@@ -367,7 +367,7 @@ fn looped(
     cells: &[i32; 2048],
 ) -> Move
     requires { ⌜ s .way < 2048 ⌝ }
-    ensures { λ r. ⌜ Does (loopedIn (sight s (now (kinds .entry)) (now (labels .entry))) act (truthOf (worthAt (now (arrays .entry)) (now (cells .entry)) (within 32768 (now (bytes .entry)) (exprIn (now (map .entry)) (s .way))))) (now (map .entry))) (now (kinds .entry)) (now (labels .entry)) r (now (kinds .exit)) (now (labels .exit)) ⌝ }
+    ensures { λ r. ⌜ Does (loopedIn (sight s (now (kinds .entry)) (now (labels .entry))) act (truthOf (worthAt (now (arrays .entry)) (now (cells .entry)) (upTo 32768 16 (now (bytes .entry)) (exprIn (now (map .entry)) (s .way))))) (now (map .entry))) (now (kinds .entry)) (now (labels .entry)) r (now (kinds .exit)) (now (labels .exit)) ⌝ }
 {
     if act == 8 {
         let v = truth(bytes, expression(map, s.way), cells, arrays);
@@ -398,7 +398,7 @@ fn tested(
     cells: &[i32; 2048],
 ) -> Move
     requires { ⌜ s .way < 2048 ⌝ }
-    ensures { λ r. ⌜ Does (testedIn (sight s (now (kinds .entry)) (now (labels .entry))) act (truthOf (worthAt (now (arrays .entry)) (now (cells .entry)) (within 32768 (now (bytes .entry)) (exprIn (now (map .entry)) (s .way))))) (now (map .entry))) (now (kinds .entry)) (now (labels .entry)) r (now (kinds .exit)) (now (labels .exit)) ⌝ }
+    ensures { λ r. ⌜ Does (testedIn (sight s (now (kinds .entry)) (now (labels .entry))) act (truthOf (worthAt (now (arrays .entry)) (now (cells .entry)) (upTo 32768 16 (now (bytes .entry)) (exprIn (now (map .entry)) (s .way))))) (now (map .entry))) (now (kinds .entry)) (now (labels .entry)) r (now (kinds .exit)) (now (labels .exit)) ⌝ }
 {
     if act == 5 {
         let v = truth(bytes, expression(map, s.way), cells, arrays);

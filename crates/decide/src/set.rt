@@ -1,20 +1,16 @@
 // What a SET does to the store: the index is evaluated and tested first, then the expression; the cell is written last.
-use crate::wide;
-use expr::amount;
+use evaluate::Entry;
+use evaluate::amount;
+use evaluate::entry_of;
 ghost use mathlib.Core.Path.{_≡_};
-ghost use Prim.Native.Nat.{_+_, _<_};
 ghost use mir.Syntax.{w64};
 ghost use mir.Val.{ofZ};
-ghost use Rattle.expr.specs.Answers.{arraysOf};
 ghost use Rattle.moves.specs.Stores.{applied};
-ghost use Rattle.decide.specs.Sets.{worked, EntrySays, entryBy, faultOf, Leaves, setEntry};
+ghost use Rattle.decide.specs.Sets.{worked, faultOf, Leaves, setEntry};
 ghost use Rattle.decide.specs.Ways.{setCell};
 
 // The largest value that an evaluation gives; what is above it is a refusal.
 const MOST: i64 = 2147483647;
-
-// No cell has this number.
-const NOWHERE: usize = 131072;
 
 // The document's number of a refused evaluation.
 fn fault(w: i64) -> u8
@@ -43,20 +39,6 @@ fn put(store: &mut [i32], cell: usize, o: usize, v: i32)
         let x = store[cell];
         store[cell] = apply(o, x, v);
     }
-}
-
-// The cell of array a at an index, or NOWHERE. The bits of a negative index are above every length.
-fn cell_of(arrays: &[u16; 32], a: usize, index: i32) -> usize
-    ensures { λ r. ⌜ EntrySays (entryBy (arraysOf (now (arrays .entry))) a index) r ⌝ }
-{
-    if 16 <= a {
-        return NOWHERE;
-    }
-    let i = values::to_bits(index) as usize;
-    if i < wide(arrays[a + 16]) {
-        return wide(arrays[a]) + i;
-    }
-    NOWHERE
 }
 
 // The SET of a cell, to what stands at `at`: 0, or the document's number of what stops it, with the store untouched.
@@ -95,9 +77,8 @@ pub fn set_entry(
     if i > MOST {
         return fault(i);
     }
-    let cell = cell_of(arrays, a, i as i32);
-    if cell == NOWHERE {
-        return 33;
+    match entry_of(arrays, a, i as i32) {
+        Entry::At(cell) => set_cell(bytes, p, o, cell, arrays, cells),
+        Entry::Outside => 33,
     }
-    set_cell(bytes, p, o, cell, arrays, cells)
 }

@@ -7,8 +7,6 @@ use Rattle.codes.specs.Codes.{AllBytes}
 use Rattle.expr.specs.Answers.{EndSays}
 use Rattle.expr.proofs.Format.{says}
 use Rattle.expr.proofs.expression_end.Reads as expression-end
-use Rattle.expr.proofs.amount.Reads as amount
-use Rattle.expr.proofs.truth.Reads as truth
 use Rattle.expr.proofs.mentions.Reads as mentions
 use Rattle.expr.proofs.names_known.Reads as names-known
 
@@ -25,11 +23,3 @@ module _ (κs : Lfts 1) where
 
   pub names-known-determined : (a : _) (r r′ : _) (s s′ : _) → names-known.Post κs a r s → names-known.Post κs a r′ s′ → r ≡ r′
   names-known-determined a r r′ s s′ p q = p ∙ sym q
-
-pub truth-determined : (κs : Lfts 3) (a : _) (r r′ : _) (s s′ : _) → truth.Post κs a r s → truth.Post κs a r′ s′ → r ≡ r′
-truth-determined κs a r r′ s s′ p q = p ∙ sym q
-
--- the answer, and the position afterwards
-pub amount-determined : (κs : Lfts 4) (a : _) (r r′ : _) (s s′ : _) → amount.Post κs a r s → amount.Post κs a r′ s′
-    → (r ≡ r′) × (s .1 .0 .now ≡ s′ .1 .0 .now)
-amount-determined κs a r r′ s s′ p q = (p .answer ∙ sym (q .answer), p .place ∙ sym (q .place))

@@ -21,7 +21,7 @@ use Rattle.expr.specs.Bytes.{Stands, Got, upTo, parse, whole, gotCon, go
 use Rattle.expr.specs.Answers.{EndSays, endOf, pickEnd}
 use Rattle.expr.specs.declared.End.{End}
 use Rattle.expr.specs.declared.End.the-variants.{At, Bad}
-use Rattle.expr.proofs.Layer.{whole-ok, parse-step, layer-con, layer-var, layer-read, layer-bin, layer-cases, and-true}
+use Rattle.expr.proofs.Layer.{whole-ok, upto-step, layer-con, layer-var, layer-read, layer-bin, layer-cases, and-true}
 
 -- what is ok lies within the bytes
 pub inside : (d : ℕ) (s : List ℕ) (at : ℕ) → parse d s at .ok ≡ true → at < length s
@@ -102,16 +102,16 @@ module _ (s : List ℕ) where
   complete (con x) d at rest v h D =
       let r = room at (encode (con x) ++ rest) D (omega arith) in
       let w = cell-back s (at + 1) rest x v (rest-at at 1 _ D) in
-      rw (parse-step d s at (λ e. omega arith), layer-con (length s) _ s at (omega arith) (head-of s at 0 _ D), le-leb (at + 5) (length s) (omega arith), w)
+      rw (upto-step (length s) d s at (λ e. omega arith), layer-con (length s) _ s at (omega arith) (head-of s at 0 _ D), le-leb (at + 5) (length s) (omega arith), w)
   complete (var x) d at rest v h D =
       let r = room at (encode (var x) ++ rest) D (omega arith) in
       let w = short-back s (at + 1) rest x v (rest-at at 1 _ D) in
-      rw (parse-step d s at (λ e. omega arith), layer-var (length s) _ s at (omega arith) (head-of s at 1 _ D), le-leb (at + 3) (length s) (omega arith), w)
+      rw (upto-step (length s) d s at (λ e. omega arith), layer-var (length s) _ s at (omega arith) (head-of s at 1 _ D), le-leb (at + 3) (length s) (omega arith), w)
   complete (read a i) d at rest v h D =
       let r = room at (encode (read a i) ++ rest) D (omega arith) in
       let w = short-back s (at + 1) (encode i ++ rest) a (v .0) (rest-at at 1 _ D) in
       let n : at + 3 + length (encode i) ≡ at + length (encode (read a i)) = omega arith in
-      rw (parse-step d s at (λ e. omega arith), layer-read (length s) _ s at (omega arith) (head-of s at 2 _ D), complete i (d - 1) (at + 3) rest (v .1) (omega arith) (rest-at at 3 _ D), w, n)
+      rw (upto-step (length s) d s at (λ e. omega arith), layer-read (length s) _ s at (omega arith) (head-of s at 2 _ D), complete i (d - 1) (at + 3) rest (v .1) (omega arith) (rest-at at 3 _ D), w, n)
   complete (bin o l r) d at rest v h D =
       let z = room at (encode (bin o l r) ++ rest) D (omega arith) in
       let tag = head-of s at 3 _ D in
@@ -119,7 +119,7 @@ module _ (s : List ℕ) where
       let D3 = rest-at (at + 2) (length (encode l)) _ D2 ∙ drop-append-seam (encode l) (encode r ++ rest) in
       let n : at + 2 + length (encode l) + length (encode r) ≡ at + length (encode (bin o l r)) = simp length-append (omega arith) in
       rw (
-        parse-step d s at (λ e. omega arith),
+        upto-step (length s) d s at (λ e. omega arith),
         layer-bin (length s) _ s at (omega arith) (λ e. omega arith) (λ e. omega arith) (λ e. omega arith),
         eq-eqb (getD s at 0) 3 tag,
         byte-of s at 1 _ D,

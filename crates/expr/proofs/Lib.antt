@@ -3,9 +3,6 @@ pub mod Layer
 pub mod Format
 pub mod Agree
 pub mod Ends
-pub mod Values
-pub mod Quickly
-pub mod Truths
 pub mod Names
 pub mod Knowns
 pub mod Vectors

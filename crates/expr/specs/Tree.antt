@@ -8,7 +8,7 @@ use lib.Dec.{ltb}
 use lib.IntN.{ℤ, pos, negsuc}
 use mir.Syntax.{w32}
 use mir.Val.{SFits}
-use Rattle.values.specs.Values.{Value, is, zeroDivisor, applyOp}
+use Rattle.values.specs.Values.{Value, is, zeroDivisor, zeroDivisorNumber, applyOp}
 use Rattle.codes.specs.Codes.{bytes16, cellBytes}
 
 -- a constant, a scalar by number, an array by number read at an index, an operator on two sides
@@ -44,10 +44,15 @@ pub record Arrays : Type 0 where
   pub starts : List ℕ
   pub lengths : List ℕ
 
--- what stops an evaluation: '32 zero divisor', '33 index below 0 or not below the array's length'
+-- what stops an evaluation
 pub data Fault : Type 0 where
   byZero : Fault
   badIndex : Fault
+
+-- '32 zero divisor in `/` or `%`', '33 index below 0 or not below the array's length'
+abbrev pub faultNumber : Fault → ℕ
+faultNumber byZero = zeroDivisorNumber
+faultNumber badIndex = 33
 
 -- a value, or what stopped the evaluation
 pub data Worth : Type 0 where

@@ -9,8 +9,8 @@ use native.Mathlib.Omega.{arith}
 use borrow.Author.Tests.{eq-eqb, ne-eqb}
 use Rattle.values.specs.Values.{isTrue}
 use Rattle.expr.specs.Tree.{Expr, byZero, badIndex as outside, Worth, value, stop, eval}
-use Rattle.expr.specs.Bytes.{Got, parse, within}
-use Rattle.expr.specs.Answers.{arraysOf, truthOf}
+use Rattle.expr.specs.Bytes.{Got, parse, upTo}
+use Rattle.evaluate.specs.Answers.{arraysOf, truthOf}
 use Rattle.place.specs.Places.{Frame}
 use Rattle.records.specs.Records.{if, fi, from, until, kind}
 use Rattle.order.specs.Trees.{Tree, recordsOf}
@@ -73,7 +73,7 @@ module _ {f : List ℕ} {t : Tree} (A : Accepts f t) {tab : List ℕ} (T : Table
   truth-fate fs σ S k (stop outside) K hy hn = (refl, refl)
 
   pub test-fate : (fs : List Frame) (σ : Store) (S : Seen) (k : ℕ) (e : Expr) (K : Bool → Answer (Cut × Store)) → (S .b < 1024) × (lookIn tab (1024 + S .b) ≡ k) → 4 < k → k < 11
-      → within 32768 bytes (lookIn tab (S .b) + 4) .tree ≡ e
+      → upTo 32768 16 bytes (lookIn tab (S .b) + 4) .tree ≡ e
       → Fate P fs σ (ruled (testedOf S k 1 tab) σ) (K true) → Fate P fs σ (ruled (testedOf S k 0 tab) σ) (K false)
       → Fate P fs σ (ruleOf bytes tab arr S σ) (bind (holds t σ e) K)
   unfolding holds evaluated
@@ -84,19 +84,19 @@ module _ {f : List ℕ} {t : Tree} (A : Accepts f t) {tab : List ℕ} (T : Table
       (truth-fate fs σ S k (eval (layout t) σ e) K hy hn)
 
   -- the expression of a test
-  pub tree-if : (o : ℕ) (e : Expr) → Stands 5 bytes o (if e) → within 32768 bytes (o + 4) .tree ≡ e
+  pub tree-if : (o : ℕ) (e : Expr) → Stands 5 bytes o (if e) → upTo 32768 16 bytes (o + 4) .tree ≡ e
   unfolding recordAs formedAs
   tree-if o e q = let z : parse 16 bytes (o + 4) .tree ≡ e = let y = q .is in cc in ap (λ (g : Got). g .tree) (filled bytes (o + 4) (ending bytes o) (q .formed) (q .before)) ∙ z
 
-  pub tree-fi : (o : ℕ) (e : Expr) → Stands 7 bytes o (fi e) → within 32768 bytes (o + 4) .tree ≡ e
+  pub tree-fi : (o : ℕ) (e : Expr) → Stands 7 bytes o (fi e) → upTo 32768 16 bytes (o + 4) .tree ≡ e
   unfolding recordAs formedAs
   tree-fi o e q = let z : parse 16 bytes (o + 4) .tree ≡ e = let y = q .is in cc in ap (λ (g : Got). g .tree) (filled bytes (o + 4) (ending bytes o) (q .formed) (q .before)) ∙ z
 
-  pub tree-from : (o : ℕ) (e : Expr) → Stands 8 bytes o (from e) → within 32768 bytes (o + 4) .tree ≡ e
+  pub tree-from : (o : ℕ) (e : Expr) → Stands 8 bytes o (from e) → upTo 32768 16 bytes (o + 4) .tree ≡ e
   unfolding recordAs formedAs
   tree-from o e q = let z : parse 16 bytes (o + 4) .tree ≡ e = let y = q .is in cc in ap (λ (g : Got). g .tree) (filled bytes (o + 4) (ending bytes o) (q .formed) (q .before)) ∙ z
 
-  pub tree-until : (o : ℕ) (e : Expr) → Stands 10 bytes o (until e) → within 32768 bytes (o + 4) .tree ≡ e
+  pub tree-until : (o : ℕ) (e : Expr) → Stands 10 bytes o (until e) → upTo 32768 16 bytes (o + 4) .tree ≡ e
   unfolding recordAs formedAs
   tree-until o e q = let z : parse 16 bytes (o + 4) .tree ≡ e = let y = q .is in cc in ap (λ (g : Got). g .tree) (filled bytes (o + 4) (ending bytes o) (q .formed) (q .before)) ∙ z
 

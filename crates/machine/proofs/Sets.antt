@@ -10,9 +10,9 @@ use lib.IntN.{ℤ, pos, negsuc}
 use native.Mathlib.Omega.{arith}
 use borrow.Author.Tests.{ne-eqb, eqb-true}
 use Rattle.expr.specs.Tree.{Expr, eval}
-use Rattle.expr.specs.Bytes.{parse, within}
-use Rattle.expr.proofs.Layer.{within-ok, and-true, grows}
-use Rattle.expr.specs.Answers.{arraysOf, worthAt}
+use Rattle.expr.specs.Bytes.{parse, upTo}
+use Rattle.expr.proofs.Layer.{upto-ok, and-true, grows}
+use Rattle.evaluate.specs.Answers.{arraysOf, worthAt, entryIf}
 use Rattle.expr.proofs.Agree.{eval-agree}
 use Rattle.place.specs.Slots.{dirNumber}
 use Rattle.records.specs.Records.{Target, cell, entry, Record, assign, kind}
@@ -22,9 +22,9 @@ use Rattle.records.specs.Reading.{stop, fills, indexed, setBody, formedAs, reco
 use Rattle.records.specs.Walk.{offsets}
 use Rattle.moves.specs.Labels.{at}
 use Rattle.moves.specs.Places.{Dir, down, up}
-use Rattle.moves.specs.Stores.{ok, bind, Store, layout, answered, evaluated, applied, operator, entryAt, cellOf, assigned}
+use Rattle.moves.specs.Stores.{ok, no, badIndex, bind, Store, layout, answered, evaluated, applied, operator, entryAt, cellOf, assigned}
 use Rattle.ways.specs.Looks.{operatorAt}
-use Rattle.decide.specs.Sets.{entryBy, setTo, setEntry, setAt}
+use Rattle.decide.specs.Sets.{asAnswer, entryBy, setTo, setEntry, setAt}
 
 operator-is : (o : ℕ) (d : Dir) → operatorAt o (dirNumber d) ≡ operator o d
 operator-is o down = refl
@@ -47,17 +47,21 @@ pub record Agrees (t : Tree) (f bytes arr : List ℕ) : Type 0 where
 
 -- ---- an expression that fills its place is read so before 32,768
 module _ (bytes : List ℕ) where
-  pub filled : (at n : ℕ) → fills (parse 16 bytes at) n ≡ true → n ≤ 32768 → within 32768 bytes at ≡ parse 16 bytes at
+  pub filled : (at n : ℕ) → fills (parse 16 bytes at) n ≡ true → n ≤ 32768 → upTo 32768 16 bytes at ≡ parse 16 bytes at
   filled at n e h =
       let p = and-true (parse 16 bytes at .ok) _ e in
-      within-ok 32768 16 bytes at (p .0) (omega (arith, eqb-true _ n (p .1)))
+      upto-ok 32768 16 bytes at (p .0) (omega (arith, eqb-true _ n (p .1)))
 
 module _ {f bytes : List ℕ} (t : Tree) (arr : List ℕ) (G : Agrees t f bytes arr) (σ : Store) where
   pub worth-is : (e : Expr) → eval (arraysOf arr) σ e ≡ eval (layout t) σ e
   worth-is e = eval-agree (arraysOf arr) (layout t) σ (G .starts) (G .lengths) e
 
   entry-is : (a : ℕ) (v : ℤ) → entryBy (arraysOf arr) a v ≡ entryAt t a v
-  entry-is a (pos i) = rw (G .lengths a, G .starts a)
+  entry-is a (pos i) = rw (G .lengths a, G .starts a) (go (ltb i (getD (t .lengths) a 0)) _)
+    where
+      go : (b : Bool) (c : ℕ) → asAnswer (entryIf b c) ≡ cond b (ok c) (no badIndex)
+      go true c = refl
+      go false c = refl
   entry-is a (negsuc i) = refl
 
   set-cell-is : (c o : ℕ) (d : Dir) (e : Expr) → setTo c (operatorAt o (dirNumber d)) σ (eval (arraysOf arr) σ e)
@@ -79,32 +83,32 @@ module _ {f bytes : List ℕ} (t : Tree) (arr : List ℕ) (G : Agrees t f bytes 
 
     -- where both expressions are read alike before 32,768
     set-as : (b : Bool) (o : ℕ) (x : Target) (e : Expr)
-        → assign (getD bytes (at + 4) 0) (cond b (cell (word bytes (at + 6))) (entry (word bytes (at + 6)) (within 32768 bytes (at + 8) .tree))) (within 32768 bytes (cond b (at + 8) (within 32768 bytes (at + 8) .next)) .tree)
+        → assign (getD bytes (at + 4) 0) (cond b (cell (word bytes (at + 6))) (entry (word bytes (at + 6)) (upTo 32768 16 bytes (at + 8) .tree))) (upTo 32768 16 bytes (cond b (at + 8) (upTo 32768 16 bytes (at + 8) .next)) .tree)
         ≡ assign o x e
-        → cond b (setTo (word bytes (at + 6)) (operatorAt (getD bytes (at + 4) 0) (dirNumber d)) σ (worthAt arr σ (within 32768 bytes (at + 8))))
+        → cond b (setTo (word bytes (at + 6)) (operatorAt (getD bytes (at + 4) 0) (dirNumber d)) σ (worthAt arr σ (upTo 32768 16 bytes (at + 8))))
         (setEntry bytes (at + 8) (word bytes (at + 6)) (operatorAt (getD bytes (at + 4) 0) (dirNumber d)) arr σ) ≡ assigned t o x e d σ
     unfolding setEntry
     set-as true o x e q =
         let eo : getD bytes (at + 4) 0 ≡ o = cc in
         let ex : cell (word bytes (at + 6)) ≡ x = cc in
-        let ee : within 32768 bytes (at + 8) .tree ≡ e = cc in
+        let ee : upTo 32768 16 bytes (at + 8) .tree ≡ e = cc in
         scalar-is _ _ _ ∙ (λ j. assigned t (eo j) (ex j) (ee j) d σ)
     set-as false o x e q =
         let eo : getD bytes (at + 4) 0 ≡ o = cc in
-        let ex : entry (word bytes (at + 6)) (within 32768 bytes (at + 8) .tree) ≡ x = cc in
-        let ee : within 32768 bytes (within 32768 bytes (at + 8) .next) .tree ≡ e = cc in
+        let ex : entry (word bytes (at + 6)) (upTo 32768 16 bytes (at + 8) .tree) ≡ x = cc in
+        let ee : upTo 32768 16 bytes (upTo 32768 16 bytes (at + 8) .next) .tree ≡ e = cc in
         array-is _ _ _ _ ∙ (λ j. assigned t (eo j) (ex j) (ee j) d σ)
 
     set-read : (b : Bool) (o : ℕ) (x : Target) (e : Expr) → (b ≡ true) ⊎ (parse 16 bytes (at + 8) .ok ≡ true) → fills (parse 16 bytes (cond b (at + 8) (parse 16 bytes (at + 8) .next))) (stop bytes at) ≡ true → stop bytes at ≤ 32768
         → assign (getD bytes (at + 4) 0) (cond b (cell (word bytes (at + 6))) (entry (word bytes (at + 6)) (parse 16 bytes (at + 8) .tree))) (parse 16 bytes (cond b (at + 8) (parse 16 bytes (at + 8) .next)) .tree) ≡ assign o x e
-        → assign (getD bytes (at + 4) 0) (cond b (cell (word bytes (at + 6))) (entry (word bytes (at + 6)) (within 32768 bytes (at + 8) .tree))) (within 32768 bytes (cond b (at + 8) (within 32768 bytes (at + 8) .next)) .tree) ≡ assign o x e
+        → assign (getD bytes (at + 4) 0) (cond b (cell (word bytes (at + 6))) (entry (word bytes (at + 6)) (upTo 32768 16 bytes (at + 8) .tree))) (upTo 32768 16 bytes (cond b (at + 8) (upTo 32768 16 bytes (at + 8) .next)) .tree) ≡ assign o x e
     set-read true o x e k w h q = rw (filled bytes (at + 8) (stop bytes at) w h) q
     set-read false o x e (inl z) w h q = absurd (false≢true z)
     set-read false o x e (inr z) w h q =
         let p = and-true (parse 16 bytes (parse 16 bytes (at + 8) .next) .ok) _ w in
         let n = eqb-true (parse 16 bytes (parse 16 bytes (at + 8) .next) .next) (stop bytes at) (p .1) in
         let g = grows (length bytes) 16 bytes (parse 16 bytes (at + 8) .next) in
-        rw (within-ok 32768 16 bytes (at + 8) z (omega arith), filled bytes (parse 16 bytes (at + 8) .next) (stop bytes at) w h) q
+        rw (upto-ok 32768 16 bytes (at + 8) z (omega arith), filled bytes (parse 16 bytes (at + 8) .next) (stop bytes at) w h) q
 
     pub set-is : (o : ℕ) (x : Target) (e : Expr) → Stands 4 bytes at (assign o x e) → setAt bytes at (dirNumber d) arr σ ≡ assigned t o x e d σ
     unfolding setAt recordAs formedAs setBody

@@ -9,7 +9,7 @@ use lib.IntN.{ℤ, pos, negsuc, _+ℤ_, _-ℤ_}
 use mir.Syntax.{w32}
 use mir.Val.{SFits}
 use Rattle.values.specs.Values.{wrap, xorZ, isTrue}
-use Rattle.expr.specs.Tree.{Expr, Arrays, Fault, byZero, badIndex as outside, Worth, value, stop, eval}
+use Rattle.expr.specs.Tree.{Expr, Arrays, Fault, byZero, badIndex as outside, faultNumber, Worth, value, stop, eval}
 use Rattle.records.specs.Records.{Target, cell, entry}
 use Rattle.order.specs.Trees.{Tree, cells}
 use Rattle.moves.specs.Places.{Dir, going}
@@ -21,8 +21,8 @@ pub data Reason : Type 0 where
 abbrev pub number : Reason → ℕ
 number atEnd = 30
 number wrongValue = 31
-number zeroDivisor = 32
-number badIndex = 33
+number zeroDivisor = faultNumber byZero
+number badIndex = faultNumber outside
 number tooDeep = 34
 
 -- What is answered, or the reason why it is not.

@@ -4,10 +4,9 @@ use mathlib.Core.List.{List, [], _∷_, _++_}
 use Prim.Native.Nat.{ℕ}
 use lib.IntN.{ℤ, pos, negℤ}
 use Rattle.values.specs.Values.{applyOp, wrap, floorDiv, floorMod}
-use Rattle.expr.specs.Tree.{anyName, Expr, con, bin, Worth, value, stop, worthOf, eval, known}
+use Rattle.expr.specs.Tree.{anyName, Expr, con, bin, faultNumber, Worth, value, stop, worthOf, eval, known}
 use Rattle.expr.specs.Agreement.{occurs}
 use Rattle.expr.specs.Bytes.{whole, within, upTo, layer}
-use Rattle.expr.specs.Answers.{faultNumber}
 use Rattle.records.specs.Records.{sum}
 use Rattle.records.specs.Walk.{offsets, offsetsFrom, kindsAt}
 use Rattle.records.specs.Reading.{shortsAt, walkOf, walkFrom, wrongAt, cutAt, unknownAt, sizedAs, namesFit, lengthsFit, formedAs, setBody}

@@ -12,7 +12,7 @@ use Rattle.expr.specs.Bytes.{Got}
 use Rattle.expr.specs.Answers.{endOf, pickEnd}
 use Rattle.expr.specs.declared.End.{End}
 use Rattle.expr.specs.declared.End.the-variants.{At, Bad}
-use Rattle.expr.proofs.Layer.{parse-out}
+use Rattle.expr.proofs.Layer.{upto-out}
 use Rattle.records.specs.Records.{isBegin, sum}
 use Rattle.records.specs.Faults.{word}
 use Rattle.records.specs.Walk.{kindAt}
@@ -28,7 +28,7 @@ module _ (f : List ℕ) where
   kind-out at h = (sym (word-out (at + 2) (omega arith)), omega arith)
 
   expr-out : (i : ℕ) → length f ≤ i → exprAt f i .ok ≡ false
-  expr-out i h = rw (parse-out 16 f i h)
+  expr-out i h = rw (upto-out _ 16 f i h)
 
 -- ---- where an expression ends
 pub end-at : (g : Got) (e : End) (n : ℕ) → e ≡ At n → e ≡ endOf g → (g .ok ≡ true) × (g .next ≡ n)

@@ -7,8 +7,6 @@ use Rattle.values.proofs.from_bits.Reads as from-bits
 use Rattle.values.proofs.sum.Reads as sum
 use Rattle.values.proofs.difference.Reads as difference
 use Rattle.values.proofs.exclusive.Reads as exclusive
-use Rattle.values.proofs.plain.Reads as plain
-use Rattle.values.proofs.simple.Reads as simple
 use Rattle.values.proofs.apply.Reads as apply
 
 pub determined : {A : Type 0} {f r q : A} → r ≡ f → q ≡ f → r ≡ q
@@ -31,9 +29,3 @@ exclusive-determined x y r q s t = determined
 
 pub apply-determined : (op : ℕ) (x y r q : ℤ) (s t : _) → apply.Post tt (op, (x, (y, tt))) r s → apply.Post tt (op, (x, (y, tt))) q t → r ≡ q
 apply-determined op x y r q s t = determined
-
-pub plain-determined : (op : ℕ) (x y r q : ℤ) (s t : _) → plain.Post tt (op, (x, (y, tt))) r s → plain.Post tt (op, (x, (y, tt))) q t → r ≡ q
-plain-determined op x y r q s t = determined
-
-pub simple-determined : (op : ℕ) (x y r q : ℤ) (s t : _) → simple.Post tt (op, (x, (y, tt))) r s → simple.Post tt (op, (x, (y, tt))) q t → r ≡ q
-simple-determined op x y r q s t = determined

@@ -1,33 +1,19 @@
 -- What contracts and proofs say besides Values: the low bits, and the answer as one number. Nothing here has to be believed:
 -- proofs/Laws `packed-only` tells the answer from its number.
 use Prim.Native.Nat.{ℕ, _+_, _^_}
-use mathlib.Core.Bool.{Bool, true, false, _||_}
-use lib.Dec.{eqb, ltb}
 use lib.IntN.{ℤ, pos}
 use mir.Syntax.{w32}
 use mir.Val.{SFits}
-use Rattle.values.specs.Values.{Value, is, zeroDivisor, modBy}
+use Rattle.values.specs.Values.{Value, is, zeroDivisor, zeroDivisorNumber, modBy}
 
 -- The low 32 bits.
 abbrev pub low32 : ℤ → ℕ
 low32 z = modBy z (2 ^ 32)
 
--- The answer as one number: a value as itself, a zero divisor as 2^32 and the document's number 32, which is no i32.
+-- The answer as one number: a value as itself, a zero divisor as 2^32 and its number, which is no i32.
 abbrev pub packed : Value → ℤ
 packed (is v) = v
-packed zeroDivisor = pos (2 ^ 32 + 32)
-
--- The operators `/ %`; and `+ - ^ * & |`, which an index is made with.
-abbrev pub divides : ℕ → Bool
-divides op = eqb op 4 || eqb op 5
-
-abbrev pub counts : ℕ → Bool
-counts op = ltb op 4 || (eqb op 6 || eqb op 7)
-
--- The answer of a function for some operators only: 2^33, which packs nothing, for another.
-abbrev pub only : Bool → Value → ℤ
-only true v = packed v
-only false v = pos (2 ^ 33)
+packed zeroDivisor = pos (2 ^ 32 + zeroDivisorNumber)
 
 -- The value is an i32; a zero divisor holds none.
 abbrev pub InRange : Value → Type 0

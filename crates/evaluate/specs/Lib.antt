@@ -1,0 +1,2 @@
+-- The definitions of `evaluate`.
+pub mod Answers
