@@ -42,9 +42,11 @@ Holds (gives o x y v) = applyOp o x y ≡ is v
 Holds (stops e n) = (f : Fault) × (eval (record { starts = []; lengths = [] }) [] e ≡ stop f) × (faultNumber f ≡ n)
 Holds (answers f g) = Says f g
 
-abbrev pub Hold : List Line → Type 0
-Hold [] = Unit {0}
-Hold (l ∷ ls) = Holds l × Hold ls
+-- All lines of a table hold.
+infixr 5 _and_
+pub data Hold : List Line → Type 0 where
+  done : Hold []
+  _and_ : {l : Line} {ls : List Line} → Holds l → Hold ls → Hold (l ∷ ls)
 
 abbrev pub - : ℕ → ℤ
 - n = negℤ (pos n)
@@ -80,8 +82,8 @@ pub starred : Hold (
     ∷ [])
 unfolding applyOp wrap floorDiv floorMod eval checkOf cellsOf walkOf walkFrom orderOf orderFrom next offsets offsetsFrom kindsAt wrongAt cutAt unknownAt sizedAs namesFit lengthsFit formedAs setBody shortsAt sum whole within upTo layer known occurs anyName thereScalar thereArray thereCall thereAt freeScalar freeArray freeAt firstFrom bytesOf encodeRecord body kind encode flatMap
 starred =
-    (refl, (refl, (refl, (refl, (refl, (refl, (refl, ((byZero, refl, refl), (answered [] (Refused 6 0) refl refl, (answered _ (Refused 6 2) refl refl,
-    (answered _ (Refused 8 2) refl refl, (answered _ (Accepted 4 1 2) refl refl, tt))))))))))))
+    refl and refl and refl and refl and refl and refl and refl and _and_ {l = stops _ 32} (byZero, refl, refl)
+    (answered [] (Refused 6 0) refl refl and answered _ (Refused 6 2) refl refl and answered _ (Refused 8 2) refl refl and answered _ (Accepted 4 1 2) refl refl and done)
 
 -- n IFs one in another.
 abbrev pub nested : ℕ → Block
