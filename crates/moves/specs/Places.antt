@@ -19,8 +19,8 @@ near e d = going d (e .a) (e .b)
 abbrev pub far : Edge → Dir → ℕ
 far e d = near e (opp d)
 
--- A step is computed, so the edge that it goes by is looked for among all of them. (Theorems say that it is there, and that whichever is
--- found tells the same: moves/proofs/Theorems. Were there none, it would be one from 0 to 0.)
+-- A step is computed, so the edge that it goes by is looked for among all of them. That one is there, and that any other would do the
+-- same, is proved: a step arrives at a place that fits, and what follows a is told by a, d and the frames. (Were there none: 0 to 0.)
 unfoldable pub find : (Edge → Bool) → List Edge → Edge
 find f [] = edge 0 [] 0 0
 find f (e ∷ es) = cond (f e) e (find f es)
