@@ -2,7 +2,7 @@
 use Prim.Native.Nat.{ℕ, zero, suc, _+_, _≤_, _<_}
 use mathlib.Core.Bool.{Bool, true, not, _&&_}
 use mathlib.Core.List.{List, [], _∷_, flatMap}
-use mathlib.Core.Path.{_≡_, refl}
+use mathlib.Core.Path.{_≡_, refl, ap, _∙_}
 use native.Mathlib.Omega.{arith}
 use lib.Dec.{eqb}
 use lib.ListN.{length, getD}
@@ -20,6 +20,7 @@ use Rattle.moves.specs.Places.{Place, down, find}
 use Rattle.moves.specs.Stores.{atEnd, badIndex, tooDeep, ok, no, Store, bind, evaluated, holds, startsFrom, cellOf, assigned}
 use Rattle.moves.specs.Step.{after, executes, step, stepBack, start}
 use Rattle.moves.specs.Runs.{because, Ran, runBy, run, runBack}
+use Rattle.moves.proofs.Runs.{run-longer}
 
 -- ---- what makes a small file without arrays accepted
 names-size : (v : ℕ) → v ≤ 64 → InSize 0 0 (names v [])
@@ -101,14 +102,14 @@ counting-accepted = accepts 2 (counting .main) [] (omega arith) (omega arith) (o
 abbrev last : Place
 last = record { a = 7; b = 8; d = down; frames = [] }
 
--- "steps 12 stop 30, at 7 8 down, cell 0 3, cell 1 3"
+-- "steps 12 stop 30, at 7 8 down, cell 0 3, cell 1 3", of "at most 1,000,000 steps"
 counting-run : run counting 1000000 (start counting down) (pos 0 ∷ pos 0 ∷ []) ≡ record { steps = 12; place = last; store = pos 3 ∷ pos 3 ∷ []; stop = because atEnd }
 unfolding runBy step executes after find bind evaluated holds cellOf assigned startsFrom recordsOf recordsP recordsS edgesS edgesP kind eval applyOp wrap
-counting-run = refl
+counting-run = run-longer (step counting) 13 1000000 (start counting down) (pos 0 ∷ pos 0 ∷ []) _ atEnd (omega arith) refl refl
 
 counting-back : runBack counting 1000000 last (pos 3 ∷ pos 3 ∷ []) ≡ record { steps = 12; place = start counting down; store = pos 0 ∷ pos 0 ∷ []; stop = because atEnd }
 unfolding runBy step stepBack executes after find bind evaluated holds cellOf assigned startsFrom recordsOf recordsP recordsS edgesS edgesP kind eval applyOp wrap
-counting-back = refl
+counting-back = run-longer (stepBack counting) 13 1000000 last (pos 3 ∷ pos 3 ∷ []) _ atEnd (omega arith) refl refl
 
 -- "Main CALL 1, procedure 1 CALL 1: 64 steps, the next is 34; 64 back reach the start, then 30."
 abbrev deep : Tree
@@ -122,17 +123,23 @@ deep-accepted = accepts 0 (deep .main) (deep .others) (omega arith) (omega arith
 abbrev deepest : Ran
 deepest = run deep 1000000 (start deep down) []
 
+deep-first : deepest ≡ run deep 65 (start deep down) []
+unfolding runBy step executes after find bind evaluated holds cellOf assigned startsFrom recordsOf recordsP recordsS edgesS edgesP kind
+deep-first = run-longer (step deep) 65 1000000 (start deep down) [] _ tooDeep (omega arith) refl refl
+
 deep-run : deepest .steps ≡ 64
 unfolding runBy step executes after find bind evaluated holds cellOf assigned startsFrom recordsOf recordsP recordsS edgesS edgesP kind
-deep-run = refl
+deep-run = ap (λ (r : Ran). r .steps) deep-first
 
 deep-reason : deepest .stop ≡ because tooDeep
 unfolding runBy step executes after find bind evaluated holds cellOf assigned startsFrom recordsOf recordsP recordsS edgesS edgesP kind
-deep-reason = refl
+deep-reason = ap (λ (r : Ran). r .stop) deep-first
 
 deep-back : runBack deep 1000000 (deepest .place) (deepest .store) ≡ record { steps = 64; place = start deep down; store = []; stop = because atEnd }
 unfolding runBy step stepBack executes after find bind evaluated holds cellOf assigned startsFrom recordsOf recordsP recordsS edgesS edgesP kind
-deep-back = refl
+deep-back =
+    ap (λ (r : Ran). runBack deep 1000000 (r .place) (r .store)) deep-first
+    ∙ run-longer (stepBack deep) 65 1000000 (run deep 65 (start deep down) [] .place) (run deep 65 (start deep down) [] .store) _ atEnd (omega arith) refl refl
 
 -- "Index 1,023 of a length 1,024 reads; 1,024 and -1 are 33."
 abbrev long : Tree
