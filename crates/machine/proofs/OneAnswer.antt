@@ -1,14 +1,10 @@
--- Answers says one answer, one place and one store for every file, struct and store; and what the promises say of them.
+-- Answers says one answer, one place and one store for every file, struct and store.
 --     run-one, step-one, start-one     any two answers that are said are equal
---     back-after-step, step-after-back demand 3: what a step did, the opposite one undoes
 use Prim.Native.Nat.{ℕ}
 use mathlib.Core.Path.{_≡_, refl, sym, ap, ap₂, _∙_, subst}
 use mathlib.Core.List.{List}
-use lib.ListN.{length, getD}
-use lib.IntN.{pos}
+use lib.ListN.{length}
 use native.Mathlib.Omega.{arith}
-use mir.Syntax.{w32}
-use mir.Val.{SFits}
 use Rattle.codes.specs.Codes.{AllBytes}
 use Rattle.place.specs.declared.Place.{Place as Held}
 use Rattle.place.specs.Places.{Dir, Place}
@@ -19,14 +15,12 @@ use Rattle.program.specs.Says.{Given, fault, Accepts, Says, accepted}
 use Rattle.program.proofs.CheckSays.{determined, accepts-unique}
 use Rattle.moves.specs.Places.{Fits}
 use Rattle.moves.specs.Stores.{number, Answer, ok, no, Store}
-use Rattle.moves.specs.Step.{step, stepBack, start}
+use Rattle.moves.specs.Step.{start}
 use Rattle.moves.specs.Runs.{stopNumber}
 use Rattle.moves.specs.Runs as runs
-use Rattle.moves.proofs.Theorems.{back-undoes-forward, forward-undoes-back}
 use Rattle.machine.specs.declared.Told.{Told}
-use Rattle.machine.specs.declared.Told.the-variants.{Done}
-use Rattle.machine.specs.Answers.{Gives, done, Before, program, size, place, Ready, StepSays, refused, stopped, arrived, RunSays, ran, StartSays, started}
-use Rattle.machine.proofs.Giving.{gives-one, gives-done, not-none, before-some, reason-some}
+use Rattle.machine.specs.Answers.{Before, program, size, place, Ready, StepSays, refused, stopped, arrived, RunSays, ran, StartSays, started}
+use Rattle.machine.proofs.Giving.{gives-one}
 
 pub no-way : {X : Type 0} → ⊥ → X
 no-way h = absurd h
@@ -103,21 +97,3 @@ module _ {f : List ℕ} (B : AllBytes f) where
   start-one (refused s e₁ e₂) (started A e₁′ e₂′) = no-way (not-both A s)
   start-one (started A e₁ e₂) (refused s e₁′ e₂′) = no-way (not-both A s)
   start-one {d} (started {t} A e₁ e₂) (started {t = t′} A′ e₁′ e₂′) = (gives-one e₁ e₁′ refl refl, e₂ ∙ (ap (λ t. held (start t d)) (accepts-unique f B t t′ A A′) ∙ sym e₂′))
-
-  -- ---- demand 3, of the answers themselves
-  module _ {q : Held} {σ : Store} (range : (i : ℕ) → SFits w32 (getD σ i (pos 0))) where
-    pub back-after-step : {q′ q″ : Held} {σ′ σ″ : Store} {a a′ : Told} → StepSays step f q σ a q′ σ′ → Gives a 0 0 → StepSays stepBack f q′ σ′ a′ q″ σ″ → Gives a′ 0 0 × (q″ ≡ q) × (σ″ ≡ σ)
-    back-after-step (refused b e₁ e₂ e₃) g s = not-none (before-some b) e₁ g
-    back-after-step (stopped {r = r} R m e₁ e₂ e₃) g s = not-none (reason-some r) e₁ g
-    back-after-step {q′} {σ′ = σ′} (arrived {t} {p} {p′} {τ} R m e₁ e₂ e₃) g s =
-        let u = back-undoes-forward (R .accepts) p (R .fits) σ (record { size = R .sized; range = range }) p′ τ m in
-        let y : StepSays stepBack f q′ σ′ Done q σ = arrived (record { accepts = R .accepts; sized = ap length e₃ ∙ u .1 .size; holds = e₂; fits = u .0 }) (ap (stepBack t p′) e₃ ∙ u .2) done (R .holds) refl in
-        let z = step-one stepBack s y in (gives-done (z .0), z .1, z .2)
-
-    pub step-after-back : {q′ q″ : Held} {σ′ σ″ : Store} {a a′ : Told} → StepSays stepBack f q σ a q′ σ′ → Gives a 0 0 → StepSays step f q′ σ′ a′ q″ σ″ → Gives a′ 0 0 × (q″ ≡ q) × (σ″ ≡ σ)
-    step-after-back (refused b e₁ e₂ e₃) g s = not-none (before-some b) e₁ g
-    step-after-back (stopped {r = r} R m e₁ e₂ e₃) g s = not-none (reason-some r) e₁ g
-    step-after-back {q′} {σ′ = σ′} (arrived {t} {p} {p′} {τ} R m e₁ e₂ e₃) g s =
-        let u = forward-undoes-back (R .accepts) p (R .fits) σ (record { size = R .sized; range = range }) p′ τ m in
-        let y : StepSays step f q′ σ′ Done q σ = arrived (record { accepts = R .accepts; sized = ap length e₃ ∙ u .1 .size; holds = e₂; fits = u .0 }) (ap (step t p′) e₃ ∙ u .2) done (R .holds) refl in
-        let z = step-one step s y in (gives-done (z .0), z .1, z .2)

@@ -1,52 +1,53 @@
--- Demand 3 of the code's own answers, as their contracts say them.
+-- Demand 3 of the code's own answers: `StepSays` and `RunSays` are what the contracts of `step`, `back`, `run` and `run_back` say.
 --     step-undone, back-undone          a step back after a step that was done answers the former place and store; and the other way round
 --     run-undone                        as many steps back as a run made answer the former place and store
 use Prim.Native.Nat.{ℕ}
-use mathlib.Core.Path.{_≡_, sym, ap, ap₂, _∙_, subst}
+use mathlib.Core.Path.{_≡_, refl, sym, ap, ap₂, _∙_, subst}
 use mathlib.Core.List.{List}
-use lib.ListN.{length, getD}
-use lib.IntN.{pos}
-use mir.Syntax.{w32}
-use mir.Val.{SFits}
-use contract.Lifetimes.{Lfts}
+use lib.ListN.{length}
 use Rattle.codes.specs.Codes.{AllBytes}
 use Rattle.place.specs.declared.Place.{Place as Held}
+use Rattle.place.specs.Places.{Place}
 use Rattle.place.specs.Slots.{held}
-use Rattle.moves.specs.Stores.{Store, Sized}
-use Rattle.moves.specs.Step.{step as forward, stepBack}
+use Rattle.order.specs.Trees.{Tree}
+use Rattle.program.specs.Says.{Accepts}
+use Rattle.moves.specs.Places.{Fits}
+use Rattle.moves.specs.Stores.{ok, Store, Sized}
+use Rattle.moves.specs.Step.{step, stepBack}
 use Rattle.moves.specs.Runs.{stopNumber, run as running, runBack}
 use Rattle.moves.specs.Runs as runs
 use Rattle.moves.proofs.Theorems as theorems
 use Rattle.machine.specs.declared.Told.{Told}
 use Rattle.machine.specs.declared.Told.the-variants.{Done}
-use Rattle.machine.specs.Answers.{Gives, done, Before, StepSays, RunSays, refused, ran}
-use Rattle.machine.proofs.Giving.{gives-done}
-use Rattle.machine.proofs.OneAnswer.{run-one, back-after-step, step-after-back}
-use Rattle.machine.proofs.step.Reads as step
-use Rattle.machine.proofs.back.Reads as back
+use Rattle.machine.specs.Answers.{Gives, done, Before, StepSays, refused, stopped, arrived, RunSays, ran}
+use Rattle.machine.proofs.Giving.{gives-done, not-none, before-some, reason-some}
+use Rattle.machine.proofs.OneAnswer.{run-one, step-one}
+use Rattle.machine.proofs.Walks.{Range, Move}
 
--- ---- steps, by the contracts of `step` and `back`
-module _ (κs κs′ : Lfts 2) where
-  pub step-undone : (a : _) (r : _) (s : _) (a′ : _) (r′ : _) (s′ : _) → step.Post κs a r s → back.Post κs′ a′ r′ s′ → AllBytes (a .0 .now)
-      → ((i : ℕ) → SFits w32 (getD (a .1 .1 .0 .now) i (pos 0))) → a′ .0 .now ≡ a .0 .now → a′ .1 .0 ≡ r .place → a′ .1 .1 .0 .now ≡ s .1 .1 .0 .now → Gives (r .told) 0 0
-      → Gives (r′ .told) 0 0 × (r′ .place ≡ a .1 .0) × (s′ .1 .1 .0 .now ≡ a .1 .1 .0 .now)
-  step-undone a r s a′ r′ s′ p q B range ef eq es et =
-      back-after-step B range p et
-      (subst (λ f. StepSays stepBack f (r .place) (s .1 .1 .0 .now) (r′ .told) (r′ .place) (s′ .1 .1 .0 .now)) ef
-      (subst (λ h. StepSays stepBack (a′ .0 .now) h (s .1 .1 .0 .now) (r′ .told) (r′ .place) (s′ .1 .1 .0 .now)) eq
-      (subst (λ σ. StepSays stepBack (a′ .0 .now) (a′ .1 .0) σ (r′ .told) (r′ .place) (s′ .1 .1 .0 .now)) es q)))
+-- ---- steps
+module _ {f : List ℕ} (B : AllBytes f) {q : Held} {σ : Store} (range : Range σ) where
+  undone : (move back : Move)
+      → ((t : Tree) → Accepts f t → (p : Place) → Fits t p → (σ : Store) → Sized t σ → (p′ : Place) (σ′ : Store) → move t p σ ≡ ok (p′, σ′)
+      → Fits t p′ × Sized t σ′ × (back t p′ σ′ ≡ ok (p, σ)))
+      → {q′ q″ : Held} {σ′ σ″ : Store} {a a′ : Told} → StepSays move f q σ a q′ σ′ → Gives a 0 0 → StepSays back f q′ σ′ a′ q″ σ″
+      → Gives a′ 0 0 × (q″ ≡ q) × (σ″ ≡ σ)
+  undone move back undoes (refused b e₁ e₂ e₃) g s = not-none (before-some b) e₁ g
+  undone move back undoes (stopped {r = r} R m e₁ e₂ e₃) g s = not-none (reason-some r) e₁ g
+  undone move back undoes {q′} {σ′ = σ′} (arrived {t} {p} {p′} {τ} R m e₁ e₂ e₃) g s =
+      let u = undoes t (R .accepts) p (R .fits) σ (record { size = R .sized; range = range }) p′ τ m in
+      let y : StepSays back f q′ σ′ Done q σ = arrived (record { accepts = R .accepts; sized = ap length e₃ ∙ u .1 .size; holds = e₂; fits = u .0 }) (ap (back t p′) e₃ ∙ u .2) done (R .holds) refl in
+      let z = step-one B back s y in (gives-done (z .0), z .1, z .2)
 
-  pub back-undone : (a : _) (r : _) (s : _) (a′ : _) (r′ : _) (s′ : _) → back.Post κs a r s → step.Post κs′ a′ r′ s′ → AllBytes (a .0 .now)
-      → ((i : ℕ) → SFits w32 (getD (a .1 .1 .0 .now) i (pos 0))) → a′ .0 .now ≡ a .0 .now → a′ .1 .0 ≡ r .place → a′ .1 .1 .0 .now ≡ s .1 .1 .0 .now → Gives (r .told) 0 0
-      → Gives (r′ .told) 0 0 × (r′ .place ≡ a .1 .0) × (s′ .1 .1 .0 .now ≡ a .1 .1 .0 .now)
-  back-undone a r s a′ r′ s′ p q B range ef eq es et =
-      step-after-back B range p et
-      (subst (λ f. StepSays forward f (r .place) (s .1 .1 .0 .now) (r′ .told) (r′ .place) (s′ .1 .1 .0 .now)) ef
-      (subst (λ h. StepSays forward (a′ .0 .now) h (s .1 .1 .0 .now) (r′ .told) (r′ .place) (s′ .1 .1 .0 .now)) eq
-      (subst (λ σ. StepSays forward (a′ .0 .now) (a′ .1 .0) σ (r′ .told) (r′ .place) (s′ .1 .1 .0 .now)) es q)))
+  pub step-undone : {q′ q″ : Held} {σ′ σ″ : Store} {a a′ : Told} → StepSays step f q σ a q′ σ′ → Gives a 0 0 → StepSays stepBack f q′ σ′ a′ q″ σ″
+      → Gives a′ 0 0 × (q″ ≡ q) × (σ″ ≡ σ)
+  step-undone = undone step stepBack (λ t A. theorems.back-undoes-forward A)
+
+  pub back-undone : {q′ q″ : Held} {σ′ σ″ : Store} {a a′ : Told} → StepSays stepBack f q σ a q′ σ′ → Gives a 0 0 → StepSays step f q′ σ′ a′ q″ σ″
+      → Gives a′ 0 0 × (q″ ≡ q) × (σ″ ≡ σ)
+  back-undone = undone stepBack step (λ t A. theorems.forward-undoes-back A)
 
 -- ---- runs, of what `run` and `run_back` answer where nothing refuses them before their first step
-module _ {f : List ℕ} (B : AllBytes f) {q : Held} {σ : Store} (range : (i : ℕ) → SFits w32 (getD σ i (pos 0))) (free : (m k : ℕ) → Before f q σ m k → ⊥) where
+module _ {f : List ℕ} (B : AllBytes f) {q : Held} {σ : Store} (range : Range σ) (free : (m k : ℕ) → Before f q σ m k → ⊥) where
   pub run-undone : (n : ℕ) {a a′ : Told} {k k′ : ℕ} {q′ q″ : Held} {σ′ σ″ : Store} → RunSays running f q σ n a k q′ σ′ → RunSays runBack f q′ σ′ k a′ k′ q″ σ″
       → Gives a′ 0 0 × (k′ ≡ k) × (q″ ≡ q) × (σ″ ≡ σ)
   run-undone n (refused b e₁ e₂ e₃ e₄) s = absurd (free _ _ b)

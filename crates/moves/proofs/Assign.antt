@@ -21,7 +21,6 @@ use Rattle.order.specs.Trees.{Tree, cells}
 use Rattle.moves.specs.Places.{Dir, down, up, opp}
 use Rattle.moves.specs.Stores.{Answer, ok, no, bind, Store, Sized, startsFrom, layout, reasonOf, answered, evaluated, applied, operator, entryAt, cellOf, assigned, badIndex}
 use Rattle.expr.proofs.Layer.{and-true}
-use Rattle.moves.proofs.Cuts.{Undoes}
 use Rattle.moves.proofs.Why.{ok-no}
 
 -- ---- the operators
@@ -180,8 +179,9 @@ module _ (τ : Tree) where
       go′ i true e = rw (eqb-true i c e, getD-set-same σ c y (pos 0) (omega (arith, so .size))) k
       go′ i false e = rw (getD-set-other σ c i y (pos 0) (eqb-false i c e)) (so .range i)
 
-  pub set-undoes : (o : ℕ) (x : Target) (e : Expr) → Valid e → thereTarget (τ .scalars) arrays x ≡ true → known (τ .scalars) arrays e ≡ true
-      → ownTarget x e ≡ false → Undoes τ o x e
+  -- A SET whose names are there and whose own name is not in its expressions is undone in the opposite direction.
+  pub set-undoes : (o : ℕ) (x : Target) (e : Expr) → Valid e → thereTarget (τ .scalars) (length (τ .lengths)) x ≡ true → known (τ .scalars) (length (τ .lengths)) e ≡ true
+      → ownTarget x e ≡ false → (d : Dir) (σ σ′ : Store) → Sized τ σ → assigned τ o x e d σ ≡ ok σ′ → Sized τ σ′ × (assigned τ o x e (opp d) σ′ ≡ ok σ)
   unfolding assigned bind
   set-undoes o x e ve tx te f d σ σ′ so q =
       let s = set-is o x e d σ σ′ q in

@@ -2,13 +2,13 @@
 use Prim.Native.Nat.{ℕ, _+_, _≤_}
 use mathlib.Core.Path.{_≡_, refl, ap, sym, _∙_, subst, subst⁻¹}
 use mathlib.Core.Bool.{Bool, true, false, not, cond}
-use mathlib.Core.List.{List, [], _∷_, List·Memᴰ·head, List·Memᴰ·tail, List·Memᴰ·not-nil}
+use mathlib.Core.List.{List, [], _∷_}
 use mathlib.Core.Logic.{_⊎_, inl, inr}
 use lib.ListN.{getD}
 use lib.Dec.{ltb}
 use lib.IntN.{ℤ, pos, negsuc}
 use native.Mathlib.Omega.{arith}
-use borrow.Author.Tests.{ltb-true, ltb-false, eq-eqb, eqb-true}
+use borrow.Author.Tests.{ltb-true, ltb-false}
 use Rattle.values.specs.Values.{isTrue}
 use Rattle.expr.specs.Tree.{Expr, read, Fault, byZero, badIndex as outside, Worth, value, stop, eval}
 use Rattle.records.specs.Records.{Target, cell, entry, Record, names, begin, end, assign, if, else, fi, from, loop, until, call, uncall, skip}
@@ -17,7 +17,7 @@ use Rattle.moves.specs.Edges.{Frame, inThen, inElse, inDo, inLoop, calle
 use Rattle.moves.specs.Places.{Dir, down, up, going, calls}
 use Rattle.moves.specs.Stores.{Reason, atEnd, wrongValue, badIndex, tooDeep, Answer, ok, no, bind, Store, layout, reasonOf, answered, evaluated, holds, entryAt, cellOf, assigned}
 use Rattle.moves.specs.Step.{again}
-use Rattle.moves.specs.Reasons.{Misses, Stops, in-read, misses, Faults, in-only, in-index, in-entry, Meets, ends, then-false, else-true, outside-false, again-true, by-zero, no-entry, deep}
+use Rattle.moves.specs.Reasons.{Misses, Stops, in-read, misses, of-if, of-fi, of-from, of-until, of-cell, Faults, in-only, in-index, in-entry, Meets, ends, then-false, else-true, outside-false, again-true, by-zero, no-entry, deep}
 use Rattle.moves.proofs.Acts.{Act, assigns, moves, chooses, closes, opens, tests, enters, enters-back, returns, nothing, act, wanted}
 use Rattle.moves.proofs.Why.{ok-no, no-no, Refuses}
 use Rattle.moves.proofs.Stopping.{stopped, stops-eval}
@@ -123,7 +123,7 @@ module _ (τ : Tree) (σ : Store) where
   unfolding assigned cellOf bind
   set-no o (cell x) e d r h =
       let s = last-no e _ r h in
-      (s .0, in-only {o = o} {x = x} {e = e} (List·Memᴰ·tail (List·Memᴰ·tail (List·Memᴰ·tail (List·Memᴰ·tail (List·Memᴰ·head refl))))) (s .1), s .2)
+      (s .0, in-only of-cell (s .1), s .2)
   set-no o (entry a i) e d r h = go′ (eval (layout τ) σ (read a i)) refl
     where
       go′ : (w : Worth) → eval (layout τ) σ (read a i) ≡ w → SetStops o (entry a i) e r
@@ -175,81 +175,52 @@ top-none (inDo l ∷ F) t h = absurd t
 top-none (inLoop l ∷ F) t h = absurd t
 top-none (called l ∷ F) t h = absurd (let z : ⊥ = omega arith in z)
 
-again-is : (h : ℕ) (fs : List Frame) → again h fs ≡ true → (F : List Frame) × (fs ≡ inLoop h ∷ F)
-again-is h [] e = absurd (let z : _≡_ {A = ℕ} 0 1 = cc in let y : ⊥ = omega arith in y)
-again-is h (inThen l ∷ F) e = absurd (let z : _≡_ {A = ℕ} 0 1 = cc in let y : ⊥ = omega arith in y)
-again-is h (inElse l ∷ F) e = absurd (let z : _≡_ {A = ℕ} 0 1 = cc in let y : ⊥ = omega arith in y)
-again-is h (inDo l ∷ F) e = absurd (let z : _≡_ {A = ℕ} 0 1 = cc in let y : ⊥ = omega arith in y)
-again-is h (inLoop l ∷ F) e = (F, ap (λ x. inLoop x ∷ F) (eqb-true l h e))
-again-is h (called l ∷ F) e = absurd (let z : _≡_ {A = ℕ} 0 1 = cc in let y : ⊥ = omega arith in y)
-
-again-not : (h : ℕ) (fs : List Frame) → ((F : List Frame) → fs ≡ inLoop h ∷ F → ⊥) → again h fs ≡ false
-again-not h fs f = go′ (again h fs) refl
-  where
-    go′ : (b : Bool) → again h fs ≡ b → b ≡ false
-    go′ true e = let r = again-is h fs e in absurd (f (r .0) (r .1))
-    go′ false e = refl
-
 module _ (τ : Tree) (σ : Store) (h : ℕ) (fs : List Frame) where
   -- ---- a refusal meets its reason's condition
-  fault-meets : (ρ : Record) (d : Dir) (f : Fault) (r : Reason) → Faults τ σ ρ f → reasonOf f ≡ r → Meets τ σ h fs ρ d r
-  fault-meets ρ d byZero r k e = subst (Meets τ σ h fs ρ d) e (by-zero k)
-  fault-meets ρ d outside r k e = subst (Meets τ σ h fs ρ d) e (no-entry k)
+  fault-meets : (ρ : Record) (d : Dir) (f : Fault) (r : Reason) → Faults τ σ ρ f → reasonOf f ≡ r → Meets τ σ (again h fs) fs ρ d r
+  fault-meets ρ d byZero r k e = subst (Meets τ σ (again h fs) fs ρ d) e (by-zero k)
+  fault-meets ρ d outside r k e = subst (Meets τ σ (again h fs) fs ρ d) e (no-entry k)
 
   closes-meets : (ρ : Record) (d : Dir) (e : Expr) (r : Reason) → ρ ≡ going d (fi e) (if e) → ((f : Fault) → Stops τ σ e f → Faults τ σ ρ f) → Branch fs
-      → (holds τ σ e ≡ no r) ⊎ ((holds τ σ e ≡ ok (not (wanted fs))) × (r ≡ wrongValue)) → Meets τ σ h fs ρ d r
+      → (holds τ σ e ≡ no r) ⊎ ((holds τ σ e ≡ ok (not (wanted fs))) × (r ≡ wrongValue)) → Meets τ σ (again h fs) fs ρ d r
   closes-meets ρ d e r c k b (inl n) = let s = holds-no τ σ e r n in fault-meets ρ d (s .0) r (k (s .0) (s .1)) (s .2)
   closes-meets ρ d e r c k (l, F, inl q) (inr n) =
-      let s = holds-ok τ σ e (not (wanted fs)) (n .0) in subst⁻¹ (Meets τ σ h fs ρ d) (n .1) (then-false e c q (s .0, s .1, s .2 ∙ rw q))
+      let s = holds-ok τ σ e (not (wanted fs)) (n .0) in subst⁻¹ (Meets τ σ (again h fs) fs ρ d) (n .1) (then-false e c q (s .0, s .1, s .2 ∙ rw q))
   closes-meets ρ d e r c k (l, F, inr q) (inr n) =
-      let s = holds-ok τ σ e (not (wanted fs)) (n .0) in subst⁻¹ (Meets τ σ h fs ρ d) (n .1) (else-true e c q (s .0, s .1, s .2 ∙ rw q))
+      let s = holds-ok τ σ e (not (wanted fs)) (n .0) in subst⁻¹ (Meets τ σ (again h fs) fs ρ d) (n .1) (else-true e c q (s .0, s .1, s .2 ∙ rw q))
 
   opens-meets : (ρ : Record) (d : Dir) (e : Expr) (r : Reason) → ρ ≡ going d (from e) (until e) → ((f : Fault) → Stops τ σ e f → Faults τ σ ρ f)
-      → (holds τ σ e ≡ no r) ⊎ ((holds τ σ e ≡ ok (again h fs)) × (r ≡ wrongValue)) → Meets τ σ h fs ρ d r
+      → (holds τ σ e ≡ no r) ⊎ ((holds τ σ e ≡ ok (again h fs)) × (r ≡ wrongValue)) → Meets τ σ (again h fs) fs ρ d r
   opens-meets ρ d e r c k (inl n) = let s = holds-no τ σ e r n in fault-meets ρ d (s .0) r (k (s .0) (s .1)) (s .2)
-  opens-meets ρ d e r c k (inr n) = subst⁻¹ (Meets τ σ h fs ρ d) (n .1) (go′ (again h fs) refl)
+  opens-meets ρ d e r c k (inr n) = subst⁻¹ (Meets τ σ (again h fs) fs ρ d) (n .1) (go′ (again h fs) refl)
     where
-      go′ : (b : Bool) → again h fs ≡ b → Meets τ σ h fs ρ d wrongValue
-      go′ true q = let s = holds-ok τ σ e (again h fs) (n .0) in let F = again-is h fs q in again-true e c (F .1) (s .0, s .1, s .2 ∙ q)
-      go′ false q =
-          let s = holds-ok τ σ e (again h fs) (n .0) in
-          outside-false e c (λ F i. let t = eq-eqb h h refl in let x : again h fs ≡ true = rw i t in let z : _≡_ {A = ℕ} 0 1 = cc in omega arith) (s .0, s .1, s .2 ∙ q)
+      go′ : (b : Bool) → again h fs ≡ b → Meets τ σ (again h fs) fs ρ d wrongValue
+      go′ true q = let s = holds-ok τ σ e (again h fs) (n .0) in again-true e c q (s .0, s .1, s .2 ∙ q)
+      go′ false q = let s = holds-ok τ σ e (again h fs) (n .0) in outside-false e c q (s .0, s .1, s .2 ∙ q)
 
-  plain-meets : (ρ : Record) (d : Dir) (e : Expr) (r : Reason) → ((f : Fault) → Stops τ σ e f → Faults τ σ ρ f) → holds τ σ e ≡ no r → Meets τ σ h fs ρ d r
+  plain-meets : (ρ : Record) (d : Dir) (e : Expr) (r : Reason) → ((f : Fault) → Stops τ σ e f → Faults τ σ ρ f) → holds τ σ e ≡ no r → Meets τ σ (again h fs) fs ρ d r
   plain-meets ρ d e r k n = let s = holds-no τ σ e r n in fault-meets ρ d (s .0) r (k (s .0) (s .1)) (s .2)
 
-  in-if : (e : Expr) (f : Fault) → Stops τ σ e f → Faults τ σ (if e) f
-  in-if e f q = in-only {o = 0} {x = 0} {e = e} (List·Memᴰ·head refl) q
-
-  in-fi : (e : Expr) (f : Fault) → Stops τ σ e f → Faults τ σ (fi e) f
-  in-fi e f q = in-only {o = 0} {x = 0} {e = e} (List·Memᴰ·tail (List·Memᴰ·head refl)) q
-
-  in-from : (e : Expr) (f : Fault) → Stops τ σ e f → Faults τ σ (from e) f
-  in-from e f q = in-only {o = 0} {x = 0} {e = e} (List·Memᴰ·tail (List·Memᴰ·tail (List·Memᴰ·head refl))) q
-
-  in-until : (e : Expr) (f : Fault) → Stops τ σ e f → Faults τ σ (until e) f
-  in-until e f q = in-only {o = 0} {x = 0} {e = e} (List·Memᴰ·tail (List·Memᴰ·tail (List·Memᴰ·tail (List·Memᴰ·head refl)))) q
-
-  pub refuses-meets : (ρ : Record) (d : Dir) (r : Reason) → Shape (act ρ d) fs → calls fs ≤ 64 → Refuses τ h (act ρ d) d fs σ r → Meets τ σ h fs ρ d r
+  pub refuses-meets : (ρ : Record) (d : Dir) (r : Reason) → Shape (act ρ d) fs → calls fs ≤ 64 → Refuses τ h (act ρ d) d fs σ r → Meets τ σ (again h fs) fs ρ d r
   unfolding act
   refuses-meets (names v ls) d r s n k = absurd k
   refuses-meets begin down r s n k = absurd k
-  refuses-meets begin up r s n k = subst⁻¹ (Meets τ σ h fs begin up) (k .1) (ends refl (ap calls (k .0)))
-  refuses-meets end down r s n k = subst⁻¹ (Meets τ σ h fs end down) (k .1) (ends refl (ap calls (k .0)))
+  refuses-meets begin up r s n k = subst⁻¹ (Meets τ σ (again h fs) fs begin up) (k .1) (ends refl (ap calls (k .0)))
+  refuses-meets end down r s n k = subst⁻¹ (Meets τ σ (again h fs) fs end down) (k .1) (ends refl (ap calls (k .0)))
   refuses-meets end up r s n k = absurd k
   refuses-meets (assign o x e) d r s n k = let z = set-no τ σ o x e d r k in fault-meets (assign o x e) d (z .0) r (z .1) (z .2)
-  refuses-meets (if e) down r s n k = plain-meets (if e) down e r (in-if e) k
-  refuses-meets (if e) up r s n k = closes-meets (if e) up e r refl (in-if e) s k
+  refuses-meets (if e) down r s n k = plain-meets (if e) down e r (λ f q. in-only of-if q) k
+  refuses-meets (if e) up r s n k = closes-meets (if e) up e r refl (λ f q. in-only of-if q) s k
   refuses-meets else d r s n k = absurd k
-  refuses-meets (fi e) down r s n k = closes-meets (fi e) down e r refl (in-fi e) s k
-  refuses-meets (fi e) up r s n k = plain-meets (fi e) up e r (in-fi e) k
-  refuses-meets (from e) down r s n k = opens-meets (from e) down e r refl (in-from e) k
-  refuses-meets (from e) up r s n k = plain-meets (from e) up e r (in-from e) k
+  refuses-meets (fi e) down r s n k = closes-meets (fi e) down e r refl (λ f q. in-only of-fi q) s k
+  refuses-meets (fi e) up r s n k = plain-meets (fi e) up e r (λ f q. in-only of-fi q) k
+  refuses-meets (from e) down r s n k = opens-meets (from e) down e r refl (λ f q. in-only of-from q) k
+  refuses-meets (from e) up r s n k = plain-meets (from e) up e r (λ f q. in-only of-from q) k
   refuses-meets loop d r s n k = absurd k
-  refuses-meets (until e) down r s n k = plain-meets (until e) down e r (in-until e) k
-  refuses-meets (until e) up r s n k = opens-meets (until e) up e r refl (in-until e) k
-  refuses-meets (call q) d r s n k = subst⁻¹ (Meets τ σ h fs (call q) d) (k .1) (deep {q = q} (inl refl) (let a = k .0 in omega arith))
-  refuses-meets (uncall q) d r s n k = subst⁻¹ (Meets τ σ h fs (uncall q) d) (k .1) (deep {q = q} (inr refl) (let a = k .0 in omega arith))
+  refuses-meets (until e) down r s n k = plain-meets (until e) down e r (λ f q. in-only of-until q) k
+  refuses-meets (until e) up r s n k = opens-meets (until e) up e r refl (λ f q. in-only of-until q) k
+  refuses-meets (call q) d r s n k = subst⁻¹ (Meets τ σ (again h fs) fs (call q) d) (k .1) (deep {q = q} (inl refl) (let a = k .0 in omega arith))
+  refuses-meets (uncall q) d r s n k = subst⁻¹ (Meets τ σ (again h fs) fs (uncall q) d) (k .1) (deep {q = q} (inr refl) (let a = k .0 in omega arith))
   refuses-meets skip d r s n k = absurd k
 
   -- ---- where a reason's condition holds, the step is refused for it
@@ -278,14 +249,11 @@ module _ (τ : Tree) (σ : Store) (h : ℕ) (fs : List Frame) where
 
   faults-refuse : (ρ : Record) (d : Dir) (f : Fault) → Faults τ σ ρ f → Refused d (reasonOf f) ρ
   unfolding act
-  faults-refuse ρ d f (in-only {e = e} (List·Memᴰ·head i) q) = subst⁻¹ (Refused d (reasonOf f)) i (if-stops d e f q)
-  faults-refuse ρ d f (in-only {e = e} (List·Memᴰ·tail (List·Memᴰ·head i)) q) = subst⁻¹ (Refused d (reasonOf f)) i (fi-stops d e f q)
-  faults-refuse ρ d f (in-only {e = e} (List·Memᴰ·tail (List·Memᴰ·tail (List·Memᴰ·head i))) q) = subst⁻¹ (Refused d (reasonOf f)) i (from-stops d e f q)
-  faults-refuse ρ d f (in-only {e = e} (List·Memᴰ·tail (List·Memᴰ·tail (List·Memᴰ·tail (List·Memᴰ·head i)))) q) =
-      subst⁻¹ (Refused d (reasonOf f)) i (until-stops d e f q)
-  faults-refuse ρ d f (in-only {o = o} {x = x} {e = e} (List·Memᴰ·tail (List·Memᴰ·tail (List·Memᴰ·tail (List·Memᴰ·tail (List·Memᴰ·head i))))) q) =
-      subst⁻¹ (Refused d (reasonOf f)) i (cell-last τ σ o x e d f q)
-  faults-refuse ρ d f (in-only (List·Memᴰ·tail (List·Memᴰ·tail (List·Memᴰ·tail (List·Memᴰ·tail (List·Memᴰ·tail m))))) q) = absurd (List·Memᴰ·not-nil m)
+  faults-refuse ρ d f (in-only (of-if {e = e}) q) = if-stops d e f q
+  faults-refuse ρ d f (in-only (of-fi {e = e}) q) = fi-stops d e f q
+  faults-refuse ρ d f (in-only (of-from {e = e}) q) = from-stops d e f q
+  faults-refuse ρ d f (in-only (of-until {e = e}) q) = until-stops d e f q
+  faults-refuse ρ d f (in-only (of-cell {o = o} {x = x} {e = e}) q) = cell-last τ σ o x e d f q
   faults-refuse ρ d f (in-index {o = o} {a = a} {i = i} {e = e} j q) = subst⁻¹ (Refused d (reasonOf f)) j (index-no τ σ o a i e d f q)
   faults-refuse ρ d f (in-entry {o = o} {a = a} {i = i} {e = e} {v = v} j q k) = subst⁻¹ (Refused d (reasonOf f)) j (entry-last τ σ o a i e d v f q k)
 
@@ -309,16 +277,16 @@ module _ (τ : Tree) (σ : Store) (h : ℕ) (fs : List Frame) where
   top-end down s = s
   top-end up s = s
 
-  pub meets-refuses : (ρ : Record) (d : Dir) (r : Reason) → Shape (act ρ d) fs → Meets τ σ h fs ρ d r → Refuses τ h (act ρ d) d fs σ r
+  pub meets-refuses : (ρ : Record) (d : Dir) (r : Reason) → Shape (act ρ d) fs → Meets τ σ (again h fs) fs ρ d r → Refuses τ h (act ρ d) d fs σ r
   unfolding act
   meets-refuses ρ d r s (ends i k) =
       subst⁻¹ (Refused d atEnd) i (end-refuse d (top-none fs (top-end d (subst (λ ρ. Shape (act ρ d) fs) i s)) k))
   meets-refuses ρ d r s (then-false e i q (v, k, b)) = subst⁻¹ (Refused d wrongValue) i (close-refuse d e (holds-is τ σ e v k ∙ rw (q, b)))
   meets-refuses ρ d r s (else-true e i q (v, k, b)) = subst⁻¹ (Refused d wrongValue) i (close-refuse d e (holds-is τ σ e v k ∙ rw (q, b)))
   meets-refuses ρ d r s (outside-false e i q (v, k, b)) =
-      subst⁻¹ (Refused d wrongValue) i (open-refuse d e (holds-is τ σ e v k ∙ ap ok (b ∙ sym (again-not h fs q))))
+      subst⁻¹ (Refused d wrongValue) i (open-refuse d e (holds-is τ σ e v k ∙ ap ok (b ∙ sym q)))
   meets-refuses ρ d r s (again-true e i q (v, k, b)) =
-      subst⁻¹ (Refused d wrongValue) i (open-refuse d e (holds-is τ σ e v k ∙ ap ok (b ∙ sym (rw q (eq-eqb h h refl)))))
+      subst⁻¹ (Refused d wrongValue) i (open-refuse d e (holds-is τ σ e v k ∙ ap ok (b ∙ sym q)))
   meets-refuses ρ d r s (by-zero k) = faults-refuse ρ d byZero k
   meets-refuses ρ d r s (no-entry k) = faults-refuse ρ d outside k
   meets-refuses ρ d r s (deep (inl i) k) = subst⁻¹ (Refused d tooDeep) i (omega arith, refl)

@@ -1,5 +1,5 @@
 -- A run is that many single steps; n then m is n + m where n were made; and what a run did, as many steps back undo.
-use Prim.Native.Nat.{ℕ, zero, suc, _+_, _<_}
+use Prim.Native.Nat.{ℕ, zero, suc, _+_, _≤_, _<_}
 use mathlib.Core.Path.{_≡_, refl, ap, sym, _∙_, subst, subst⁻¹}
 use native.Mathlib.Omega.{arith}
 use Rattle.order.specs.Trees.{Tree}
@@ -72,6 +72,14 @@ module _ (s : Step) where
   pub run-only : (n : ℕ) (p : Place) (σ : Store) (r : Ran) → IsRun s n p σ r → r ≡ runBy s n p σ
   run-only n p σ r (all h) = sym (all-is n h)
   run-only n p σ r (fewer {k = k} {r = c} a h e) = sym (fewer-is n k c a h e)
+
+  -- A run that a reason stopped is the same where more steps are allowed.
+  longer : (n m : ℕ) (p : Place) (σ : Store) (r : Ran) (c : Reason) → n ≤ m → IsRun s n p σ r → r .stop ≡ because c → runBy s m p σ ≡ r
+  longer n m p σ r c h (all g) e = absurd (let z : _≡_ {A = ℕ} 0 1 = cc in let y : ⊥ = omega arith in y)
+  longer n m p σ r c h (fewer {k = k} {r = c′} a g b) e = fewer-is m k c′ (omega arith) g b
+
+  pub run-longer : (n m : ℕ) (p : Place) (σ : Store) (r : Ran) (c : Reason) → n ≤ m → runBy s n p σ ≡ r → r .stop ≡ because c → runBy s m p σ ≡ r
+  run-longer n m p σ r c h e = longer n m p σ r c h (subst (IsRun s n p σ) e (run-is n p σ))
 
   -- n steps were made: then m more are n + m.
   join : {n m : ℕ} {p p₁ p₂ : Place} {σ σ₁ σ₂ : Store} → Steps s n p σ p₁ σ₁ → Steps s m p₁ σ₁ p₂ σ₂ → Steps s (n + m) p σ p₂ σ₂

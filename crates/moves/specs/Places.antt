@@ -19,22 +19,30 @@ near e d = going d (e .a) (e .b)
 abbrev pub far : Edge → Dir → ℕ
 far e d = near e (opp d)
 
--- The first edge of which this holds. (Where there is none, one from 0 to 0.)
+-- A step is computed, so the edge that it goes by is looked for among all of them. That one is there, and that any other would do the
+-- same, is proved: a step arrives at a place that fits, and what follows a is told by a, d and the frames. (Were there none: 0 to 0.)
 unfoldable pub find : (Edge → Bool) → List Edge → Edge
 find f [] = edge 0 [] 0 0
 find f (e ∷ es) = cond (f e) e (find f es)
+
+abbrev pub edgeThat : Tree → (Edge → Bool) → Edge
+edgeThat t f = find f (edges t)
+
+-- The edge leaves x in direction d.
+abbrev pub leaves : ℕ → Dir → Edge → Bool
+leaves x d e = eqb (near e d) x
 
 -- The innermost frame; where there is none, as if it were a call.
 abbrev pub top : List Frame → Frame
 top fs = getD fs 0 (called 0)
 
--- The label of the IF or FROM whose construct is entered by leaving x in direction d: every edge there has it innermost.
+-- The label of the IF or FROM whose construct is entered by leaving x in direction d: every edge that leaves x then has it innermost.
 abbrev pub head : Tree → ℕ → Dir → ℕ
-head t x d = frameLabel (top (find (λ e. eqb (near e d) x) (edges t) .within))
+head t x d = frameLabel (top (edgeThat t (leaves x d) .within))
 
--- "its BEGIN going down, its END going up": where an edge of procedure q comes from a record of kind 2, or 3.
+-- "its BEGIN going down, its END going up": where the edge of procedure q comes from that leaves a record of kind 2, or 3.
 abbrev pub gate : Tree → ℕ → Dir → ℕ
-gate t q d = near (find (λ e. eqb (e .proc) q && eqb (kind (at t (near e d))) (going d 2 3)) (edges t)) d
+gate t q d = near (edgeThat t (λ e. eqb (e .proc) q && eqb (kind (at t (near e d))) (going d 2 3))) d
 
 -- How many of the frames are calls.
 abbrev pub calls : List Frame → ℕ

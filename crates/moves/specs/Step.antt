@@ -7,8 +7,8 @@ use Rattle.expr.specs.Tree.{Expr}
 use Rattle.records.specs.Records.{Record, names, begin, end, assign, if, else, fi, from, loop, until, call, uncall, skip, kind}
 use Rattle.order.specs.Trees.{Tree}
 use Rattle.moves.specs.Labels.{at}
-use Rattle.moves.specs.Edges.{Frame, inThen, inElse, inDo, inLoop, called, frameKind, frameLabel, edges}
-use Rattle.moves.specs.Places.{Dir, going, opp, Place, turn, near, far, find, top, head, calls, gate}
+use Rattle.moves.specs.Edges.{Frame, inThen, inElse, inDo, inLoop, called, frameKind, frameLabel}
+use Rattle.moves.specs.Places.{Dir, going, opp, Place, turn, far, edgeThat, leaves, top, head, calls, gate}
 use Rattle.moves.specs.Stores.{Answer, ok, no, atEnd, wrongValue, tooDeep, bind, Store, holds, assigned}
 
 -- The frames down to the first call are exactly these.
@@ -20,7 +20,7 @@ inside (f ∷ F) (g ∷ G) = eqb (frameKind f) (frameKind g) && (eqb (frameLabel
 
 -- "b follows it on the edge": the edge that leaves a in direction d, inside the constructs that the frames say.
 unfoldable pub after : Tree → ℕ → Dir → List Frame → Place
-after t a d fs = record { a = a; b = far (find (λ e. eqb (near e d) a && inside (e .within) fs) (edges t)) d; d = d; frames = fs }
+after t a d fs = record { a = a; b = far (edgeThat t (λ e. leaves a d e && inside (e .within) fs)) d; d = d; frames = fs }
 
 -- One comes to the loop h from its s2.
 abbrev pub again : ℕ → List Frame → Bool

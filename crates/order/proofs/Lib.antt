@@ -1,5 +1,4 @@
 -- The laws of the order of records.
-pub mod OrderStarred
 pub mod OrderParts
 pub mod OrderOpen
 pub mod OrderReads

@@ -1,7 +1,7 @@
 -- The check's answer is the document's: `checkOf` and `Says` are one.
 --     says, only        Says f g exactly if g is what checkOf f gives
 --     says-only         so the code's answer is checkOf f, and determined
---     accepted-tree     accepted exactly if the file is that of a tree, and its counts are the tree's
+--     accepted-tree     accepted with these counts exactly if the file is that of a tree that has them
 --     accepts-unique    that tree is unique
 --     fault-some        a refused file's number is not 0
 use mathlib.Core.Path.{_≡_, refl, sym, ap, _∙_, subst}
@@ -179,6 +179,12 @@ module _ (f : List ℕ) where
         cells-are′ = ap (λ (g : Given). g .cells) (sym e);
       }
 
+  pub accepted-tree : (r p c : ℕ) → Says f (counts r p c) ↔ TreeOf r p c
+  accepted-tree r p c = (
+    λ s. of-says (counts r p c) r p c s refl,
+    λ T. rw (T .records-are, T .procedures-are, T .cells-are′) (accepted (T .tree) (T .accepts)),
+  )
+
   -- what a caller of the check knows where it accepts, and where it refuses
   pub accepted-of : (a : Checked) (r p c : ℕ) → Says f (given a) → a ≡ Accepted r p c → TreeOf r p c
   accepted-of a r p c s e = of-says (given a) r p c s (ap given e)
@@ -259,12 +265,3 @@ module _ (f : List ℕ) (B : AllBytes f) where
       rows-unique (recordsOf t) (recordsOf u) 0 0 0 0 (omega (arith, A .rows .short, ap length (A .rows .bytes))) (A .rows .fine) (A′ .rows .fine)
       (sym (A .rows .bytes) ∙ A′ .rows .bytes) in
       ordered-unique (recordsOf u) t u (rw e at (A .ordered)) (A′ .ordered)
-
-  pub accepted-check : (t : Tree) → Accepts f t → checkOf f ≡ Accepted (length (recordsOf t)) (length (procedures t)) (cells t)
-  accepted-check t A = sym (says-only _ (accepted t A))
-
-  pub accepted-tree : (r p c : ℕ) → (checkOf f ≡ Accepted r p c) ↔ TreeOf f r p c
-  accepted-tree r p c = (
-    accepted-of f (checkOf f) r p c says,
-    λ T. accepted-check (T .tree) (T .accepts) ∙ rw (T .records-are, T .procedures-are, T .cells-are′),
-  )

@@ -4,12 +4,15 @@
 --     one-file           one place and store has exactly one file that reads as it
 --     read-then-saved    what is read and saved again is the same bytes
 --     saved-beyond       the bytes after the written ones keep their values; where a save is refused, all of them
-use Prim.Native.Nat.{ℕ, _≤_, _<_}
+use Prim.Native.Nat.{ℕ, _^_, _≤_, _<_}
 use mathlib.Core.Path.{_≡_, sym, ap, _∙_, subst}
 use mathlib.Core.List.{List, _++_}
-use lib.ListN.{length, take, drop}
+use lib.IntN.{pos}
+use lib.ListN.{length, getD, take, drop}
 use lib.Seq.{take-at, drop-at}
 use native.Mathlib.Omega.{arith}
+use mir.Syntax.{w32}
+use mir.Val.{SFits}
 use Rattle.codes.specs.Codes.{AllBytes}
 use Rattle.place.specs.declared.Place.{Place as Held}
 use Rattle.place.specs.Places.{Place}
@@ -19,9 +22,9 @@ use Rattle.order.specs.Trees.{Tree, cells}
 use Rattle.moves.specs.Stores.{Store}
 use Rattle.fits.proofs.Few.{frames-few}
 use Rattle.session.specs.Session.{encode, Fit}
-use Rattle.session.specs.Parts.{LabelsFit, CellsFit}
+use Rattle.session.specs.Parts.{LabelsFit}
 use Rattle.session.proofs.Reading.{encode-injective}
-use Rattle.session.proofs.Round.{Numbers, labels-in}
+use Rattle.session.proofs.Round.{labels-in}
 use Rattle.machine.specs.declared.Told.{Told}
 use Rattle.machine.specs.declared.Told.the-variants.{Done}
 use Rattle.machine.specs.Answers as machine
@@ -32,17 +35,24 @@ use Rattle.program.proofs.Few.{cells-few}
 use Rattle.saved.proofs.Giving.{read-some}
 use Rattle.saved.proofs.OneAnswer.{read-one, save-one}
 
--- a place and a store that a program may have fit a file; the struct's numbers are u16 and the cells i32, as their types say
-ready-fit : {f : List ℕ} {q : Held} {σ : Store} {t : Tree} {p : Place} → Numbers q → CellsFit σ → machine.Ready f q σ t p → Fit p σ
-ready-fit {q = q} {t = t} {p} nums vals R =
+-- what a struct and a store have from their types: the numbers are u16, the cells i32
+pub record Typed (q : Held) (σ : Store) : Type 0 where
+  pub a : q .a < 2 ^ 16
+  pub b : q .b < 2 ^ 16
+  pub labels : (k : ℕ) → getD (q .labels) k 0 < 2 ^ 16
+  pub cells : (i : ℕ) → SFits w32 (getD σ i (pos 0))
+
+-- a place and a store that a program may have fit a file
+ready-fit : {f : List ℕ} {q : Held} {σ : Store} {t : Tree} {p : Place} → Typed q σ → machine.Ready f q σ t p → Fit p σ
+ready-fit {q = q} {t = t} {p} T R =
     let e : seen q ≡ p = ap seen (R .holds) ∙ seen-held p in
     record {
-      a = subst (λ (p : Place). p .a < 65536) e (nums .a);
-      b = subst (λ (p : Place). p .b < 65536) e (nums .b);
+      a = subst (λ (p : Place). p .a < 65536) e (T .a);
+      b = subst (λ (p : Place). p .b < 65536) e (T .b);
       frames = frames-few (R .accepts) p (R .fits);
-      labels = subst (λ (p : Place). LabelsFit (p .frames)) e (labels-in (q .count) (q .kinds) (q .labels) (nums .labels));
+      labels = subst (λ (p : Place). LabelsFit (p .frames)) e (labels-in (q .count) (q .kinds) (q .labels) (T .labels));
       count = omega (arith, R .sized, cells-few (R .accepts));
-      cells = vals;
+      cells = T .cells;
     }
 
 -- the bytes that a save wrote
@@ -59,11 +69,11 @@ wrote {σ = σ} {n = n} (saved {t} {p} R h e₁ e₂ e₃) g =
     record { t = t; p = p; ready = R; is = ap (take n) e₃ ∙ take-at (encode p σ) _ n (sym e₂) }
 
 module _ {f : List ℕ} (B : AllBytes f) {q : Held} {σ : Store} where
-  pub saved-reads-back : {buf out : List ℕ} {n : ℕ} {st st′ : Store} {a a′ : Told} {q′ : Held} → Numbers q → CellsFit σ → SaveSays f q σ buf a n out → Gives a 0 0
+  pub saved-reads-back : {buf out : List ℕ} {n : ℕ} {st st′ : Store} {a a′ : Told} {q′ : Held} → Typed q σ → SaveSays f q σ buf a n out → Gives a 0 0
       → ReadSays f (take n out) st a′ q′ st′ → length st ≡ length σ → Gives a′ 0 0 × (q′ ≡ q) × (st′ ≡ σ)
-  saved-reads-back {out = out} {n} {st} nums vals x g y l =
+  saved-reads-back {out = out} {n} {st} T x g y l =
       let w = wrote x g in
-      let z : ReadSays f (take n out) st Done q σ = found (record { fit = ready-fit nums vals (w .ready); file = w .is }) (w .ready) (l ∙ w .ready .sized) done in
+      let z : ReadSays f (take n out) st Done q σ = found (record { fit = ready-fit T (w .ready); file = w .is }) (w .ready) (l ∙ w .ready .sized) done in
       let u = read-one B y z in (gives-done (u .0), u .1, u .2)
 
   pub read-then-saved : {s buf out : List ℕ} {st : Store} {a a′ : Told} {n : ℕ} → ReadSays f s st a q σ → Gives a 0 0 → SaveSays f q σ buf a′ n out → length s ≤ length buf
@@ -80,11 +90,11 @@ one-file (found r R l e) g (refused b e₁ e₂ e₃) g′ = not-none (read-some
 one-file {σ = σ} (found {p = p} r R l e) g (found {p = p′} r′ R′ l′ e′) g′ =
     let z : p ≡ p′ = held-injective p p′ (sym (R .holds) ∙ R′ .holds) in r .file ∙ ap (λ p. encode p σ) z ∙ sym (r′ .file)
 
-pub files-differ : {f : List ℕ} {q q′ : Held} {σ σ′ : Store} {buf buf′ out out′ : List ℕ} {n n′ : ℕ} {a a′ : Told} → Numbers q → Numbers q′ → CellsFit σ → CellsFit σ′
+pub files-differ : {f : List ℕ} {q q′ : Held} {σ σ′ : Store} {buf buf′ out out′ : List ℕ} {n n′ : ℕ} {a a′ : Told} → Typed q σ → Typed q′ σ′
     → SaveSays f q σ buf a n out → Gives a 0 0 → SaveSays f q′ σ′ buf′ a′ n′ out′ → Gives a′ 0 0 → take n out ≡ take n′ out′ → (q ≡ q′) × (σ ≡ σ′)
-files-differ {σ = σ} {σ′} nums nums′ vals vals′ x g y g′ e =
+files-differ {σ = σ} {σ′} T T′ x g y g′ e =
     let w = wrote x g in let w′ = wrote y g′ in
-    let z = encode-injective (w .p) (w′ .p) σ σ′ (ready-fit nums vals (w .ready)) (ready-fit nums′ vals′ (w′ .ready)) (sym (w .is) ∙ e ∙ w′ .is) in
+    let z = encode-injective (w .p) (w′ .p) σ σ′ (ready-fit T (w .ready)) (ready-fit T′ (w′ .ready)) (sym (w .is) ∙ e ∙ w′ .is) in
     (w .ready .holds ∙ ap held (z .0) ∙ sym (w′ .ready .holds), z .1)
 
 pub saved-beyond : {f : List ℕ} {q : Held} {σ : Store} {buf out : List ℕ} {n : ℕ} {a : Told} → SaveSays f q σ buf a n out → drop n out ≡ drop n buf

@@ -10,7 +10,6 @@ use lib.Dec.{leb}
 use lib.IntN.{ℤ}
 use lib.ListN.{length, getD}
 use borrow.Author.Tests.{le-leb, lt-leb}
-use Rattle.place.specs.declared.Place.{Place as Held}
 use Rattle.place.specs.Places.{Place}
 use Rattle.place.specs.Slots.{held, Plain, Decides, framesIn, plainOf}
 use Rattle.place.proofs.Held.{label-of, seen-held, plain-of}
@@ -38,12 +37,6 @@ module _ (p : Place) (zs : List ℤ) (buf : List ℕ) (h : length (p .frames) �
 
   pub saved-held-short : length buf < length (encode p zs) → savedOf (held p) zs buf ≡ []
   saved-held-short r = to-room ∙ rw (lt-leb (length (encode p zs)) (length buf) r)
-
--- the numbers of a struct are u16
-pub record Numbers (h : Held) : Type 0 where
-  pub a : h .a < 2 ^ 16
-  pub b : h .b < 2 ^ 16
-  pub labels : (k : ℕ) → getD (h .labels) k 0 < 2 ^ 16
 
 pub labels-in : (n : ℕ) (ks ls : List ℕ) → ((k : ℕ) → getD ls k 0 < 2 ^ 16) → LabelsFit (framesIn n ks ls)
 unfolding framesIn
