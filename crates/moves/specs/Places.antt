@@ -40,6 +40,10 @@ top fs = getD fs 0 (called 0)
 abbrev pub head : Tree → ℕ → Dir → ℕ
 head t x d = frameLabel (top (edgeThat t (leaves x d) .within))
 
+-- One comes to the loop h from its s2.
+abbrev pub again : ℕ → List Frame → Bool
+again h fs = eqb (frameKind (top fs)) 3 && eqb (frameLabel (top fs)) h
+
 -- "its BEGIN going down, its END going up": where the edge of procedure q comes from that leaves a record of kind 2, or 3.
 abbrev pub gate : Tree → ℕ → Dir → ℕ
 gate t q d = near (edgeThat t (λ e. eqb (e .proc) q && eqb (kind (at t (near e d))) (going d 2 3))) d

@@ -12,9 +12,8 @@ use Rattle.records.specs.Records.{cell, entry, Record, begin, end, assign, if, 
 use Rattle.order.specs.Trees.{Tree}
 use Rattle.moves.specs.Labels.{at}
 use Rattle.moves.specs.Edges.{Frame, inThen, inElse}
-use Rattle.moves.specs.Places.{Dir, going, Place, head, calls}
+use Rattle.moves.specs.Places.{Dir, going, Place, head, again, calls}
 use Rattle.moves.specs.Stores.{Reason, atEnd, wrongValue, zeroDivisor, badIndex, tooDeep, Store, layout}
-use Rattle.moves.specs.Step.{again}
 
 -- "index below 0 or not below the array's length"
 abbrev pub Misses : Tree → ℕ → ℤ → Type 0

@@ -9,6 +9,7 @@ use Rattle.order.specs.Trees.{Tree}
 use Rattle.moves.specs.Labels.{at}
 use Rattle.moves.specs.Edges.{Frame, inThen, inElse, inDo, inLoop, called, frameKind, frameLabel}
 use Rattle.moves.specs.Places.{Dir, going, opp, Place, turn, far, edgeThat, leaves, top, head, calls, gate}
+pub use Rattle.moves.specs.Places.{again}
 use Rattle.moves.specs.Stores.{Answer, ok, no, atEnd, wrongValue, tooDeep, bind, Store, holds, assigned}
 
 -- The frames down to the first call are exactly these.
@@ -21,10 +22,6 @@ inside (f ∷ F) (g ∷ G) = eqb (frameKind f) (frameKind g) && (eqb (frameLabel
 -- "b follows it on the edge": the edge that leaves a in direction d, inside the constructs that the frames say.
 unfoldable pub after : Tree → ℕ → Dir → List Frame → Place
 after t a d fs = record { a = a; b = far (edgeThat t (λ e. leaves a d e && inside (e .within) fs)) d; d = d; frames = fs }
-
--- One comes to the loop h from its s2.
-abbrev pub again : ℕ → List Frame → Bool
-again h fs = eqb (frameKind (top fs)) 3 && eqb (frameLabel (top fs)) h
 
 abbrev pub must : {A : Type 0} → Bool → A → Answer A
 must b x = cond b (ok x) (no wrongValue)
