@@ -18,7 +18,7 @@ use Rattle.moves.specs.Places.{Place}
 use Rattle.moves.specs.Stores.{Answer as Arrival, Store}
 use Rattle.moves.specs.Step.{start}
 use Rattle.moves.specs.Runs as runs
-use Rattle.machine.specs.Answers.{Gives, done, StepSays, stopped, arrived, RunSays, StartSays, started, direction}
+use Rattle.machine.specs.Answers.{Gives, StepSays, stopped, arrived, RunSays, StartSays, started, direction}
 use Rattle.machine.specs.Answers as machine
 use Rattle.machine.specs.declared.Told.{Told}
 use Rattle.machine.specs.declared.Told.the-variants.{Done, Refused}
@@ -50,8 +50,8 @@ module _ (s : Session) (t : Told) (next : Session) (n : ℕ) where
     kept = λ m′ k′ l g. let z = refused-gives e g in h ∙ ap₂ (λ (m k : ℕ). made (numbers m k 0) s) (z .0) (z .1);
   }
 
-  pub leaves-done : t ≡ Done → (a : Answer) → Numbered Done n a → Leaves s t next n (record { session = next; answer = a })
-  leaves-done e a h = record { found = λ g. ap (λ (a : Answer). made a next) (h 0 0 done); kept = λ m k l g. not-none l g (gives-done e) }
+  pub leaves-done : t ≡ Done → Leaves s t next n (made (numbers 0 0 n) next)
+  leaves-done e = record { found = λ g. refl; kept = λ m k l g. not-none l g (gives-done e) }
 
 module _ (f : List ℕ) (B : AllBytes f) (a : Checked) (S : Says f (given a)) where
   module _ (s : Session) (m : Outcome) where
@@ -99,11 +99,11 @@ module _ (f : List ℕ) (B : AllBytes f) (a : Checked) (S : Says f (given a)) wh
     pub open-settled : (bytes : List ℕ) {r p c : ℕ} → a ≡ Accepted r p c → Settles f bytes s c m → OpenSays f bytes s m
     open-settled bytes e x = open-read bytes e (x .told) (x .place) (x .store) (x .sized) (x .read) (x .left)
 
-  pub begin-begun : (s : Session) (d : ℕ) {r p c : ℕ} → a ≡ Accepted r p c → (told : Told) (q : Held) → StartSays f (direction (upward d)) told q
-      → (z : Session) → z ≡ laid s q c (replicate c (pos 0)) → (x : Answer) → Numbered Done 0 x → BeginSays f s d (record { session = z; answer = x })
-  begin-begun s d e told q (machine.refused b et eq) z ez x ex = absurd (not-both B (tree-of e .accepts) b)
-  begin-begun s d {c = c} e told q (started {t} A et eq) z ez x ex =
-      begun A (ap₂ made (ex 0 0 done) (ez ∙ (ap (λ (q : Held). laid s q c (replicate c (pos 0))) eq ∙ ap (λ (n : ℕ). laid s (held (start t (direction (upward d)))) n (replicate n (pos 0))) (cells-of e A))))
+  pub begin-begun : (s : Session) (d : ℕ) (m : Outcome) {r p c : ℕ} → a ≡ Accepted r p c → (told : Told) (q : Held) → StartSays f (direction (upward d)) told q
+      → (z : Session) → z ≡ laid s q c (replicate c (pos 0)) → Leaves s told z 0 m → BeginSays f s d m
+  begin-begun s d m e told q (machine.refused b et eq) z ez l = absurd (not-both B (tree-of e .accepts) b)
+  begin-begun s d m {c = c} e told q (started {t} A et eq) z ez l =
+      begun A (l .found et ∙ ap (made (numbers 0 0 0)) (ez ∙ (ap (λ (q : Held). laid s q c (replicate c (pos 0))) eq ∙ ap (λ (n : ℕ). laid s (held (start t (direction (upward d)))) n (replicate n (pos 0))) (cells-of e A))))
 
 pub move-over : (says : Told → ℕ → Held → Store → Type 0) (f : List ℕ) (s : Session) (m : Outcome) → 2048 < s .count → Over f s m → MoveSays says f s m
 move-over says f s m h o = over h (o .says) (o .is)

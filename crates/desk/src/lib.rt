@@ -90,7 +90,11 @@ fn settled(session: Session, told: Told, next: Session, count: usize) -> Outcome
     match told {
         Told::Refused(number, k) => refused(session, number, k),
         Told::Done => {
-            let answer = in_numbers(Told::Done, count);
+            let answer = Answer {
+                reason: 0,
+                label: 0,
+                count,
+            };
             Outcome {
                 session: next,
                 answer,
@@ -218,10 +222,10 @@ pub fn started(file: &[u8], session: Session, direction: u32) -> Outcome
         Checked::Refused(number, k) => refused(session, number, k),
         Checked::Accepted(_, _, count) => {
             let r = machine::start(file, direction != 0);
+            let told = r.told;
             let place = r.place;
-            let session = laid_out(session, place, count);
-            let answer = in_numbers(Told::Done, 0);
-            Outcome { session, answer }
+            let next = laid_out(session, place, count);
+            settled(session, told, next, 0)
         }
     }
 }
