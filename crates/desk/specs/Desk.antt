@@ -51,7 +51,7 @@ pub data MoveSays (says : Told → ℕ → Held → Store → Type 0) (f : List 
   within : {told : Told} {reason k steps : ℕ} {q : Held} {σ : Store} → s .count ≤ 2048 → says told steps q σ → Gives told reason k
       → m ≡ made (numbers reason k steps) (laid s q (s .count) σ) → MoveSays says f s m
 
--- The steps that a step makes.
+-- The steps made by a step: one, or none where it is refused.
 abbrev pub stepsOf : Told → ℕ
 stepsOf Done = 1
 stepsOf (Refused n k) = 0

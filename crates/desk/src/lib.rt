@@ -11,12 +11,15 @@ use machine::Told;
 use place::Place;
 use program::Checked;
 
+// No program has more cells.
+const CELLS: usize = 2048;
+
 // A place, and the store in the first `count` cells.
 #[repr(C)]
 pub struct Session {
     pub place: Place,
     pub count: usize,
-    pub cells: [i32; 2048],
+    pub cells: [i32; CELLS],
 }
 
 // The document's number (0: not refused), the record (0 where there is none), and the count that the call tells.
@@ -108,7 +111,7 @@ pub fn stepped(file: &[u8], session: Session) -> Outcome
     ensures { λ r. ⌜ SteppedSays step (now (file .entry)) session r ⌝ }
 {
     let count = session.count;
-    if 2048 < count {
+    if CELLS < count {
         return over(file, session);
     }
     let place = session.place;
@@ -129,7 +132,7 @@ pub fn stepped_back(file: &[u8], session: Session) -> Outcome
     ensures { λ r. ⌜ SteppedSays stepBack (now (file .entry)) session r ⌝ }
 {
     let count = session.count;
-    if 2048 < count {
+    if CELLS < count {
         return over(file, session);
     }
     let place = session.place;
@@ -150,7 +153,7 @@ pub fn ran(file: &[u8], session: Session, n: u32) -> Outcome
     ensures { λ r. ⌜ RanSays run (now (file .entry)) session n r ⌝ }
 {
     let count = session.count;
-    if 2048 < count {
+    if CELLS < count {
         return over(file, session);
     }
     let place = session.place;
@@ -172,7 +175,7 @@ pub fn ran_back(file: &[u8], session: Session, n: u32) -> Outcome
     ensures { λ r. ⌜ RanSays runBack (now (file .entry)) session n r ⌝ }
 {
     let count = session.count;
-    if 2048 < count {
+    if CELLS < count {
         return over(file, session);
     }
     let place = session.place;
@@ -262,7 +265,7 @@ pub fn saving(file: &[u8], session: Session, buffer: &mut [u8]) -> Answer
     ensures { λ r. ⌜ SavingSays (now (file .entry)) session (now (buffer .entry)) r (now (buffer .exit)) ⌝ }
 {
     let count = session.count;
-    if 2048 < count {
+    if CELLS < count {
         let o = over(file, session);
         return o.answer;
     }
