@@ -12,7 +12,7 @@
    them); a run that is stopped after some steps leaves the session where it stopped.
 
    Each call checks the program anew and copies the session. So a step takes about 10 microseconds on a small program and about
-   200 on one of 32,768 bytes; a run checks and copies once, whatever n is. */
+   170 on one of 32,768 bytes; a run checks and copies once, whatever n is. */
 #ifndef LADRUKHI_H
 #define LADRUKHI_H
 
@@ -29,7 +29,7 @@ extern "C" {
 #define LADRUKHI_FRAMES 1104         /* a place has at most so many */
 #define LADRUKHI_CELLS 2048          /* a store has at most so many */
 #define LADRUKHI_SAVED_BYTES 12624   /* a saved session has at most so many; a buffer of this size never is too short */
-#define LADRUKHI_STACK_BYTES 262144  /* of stack, and a thread can make every call; the most that one took is about 237,000 (the gate measures it) */
+#define LADRUKHI_STACK_BYTES 262144  /* a thread with a stack of so many can make every call; the most that one took is about 237,000 (the gate measures it) */
 
 #define LADRUKHI_DOWN 0
 #define LADRUKHI_UP 1
