@@ -1,6 +1,7 @@
 #!/usr/bin/env bash
-# Builds the library and the two C programs with the kit's own clang and linker, and runs them: desk_checks counts its checks, and
-# desk walks every example to its end and back, held to what the second program's `run` and `start` print. Last line: 'desk: K checks passed'.
+# Builds the library and the three C programs with the kit's own clang and linker, and runs them: desk_checks counts its checks, desk_stack
+# walks every example on threads with the stack that ladrukhi.h names, and desk walks every example to its end and back, held to what the
+# second program's `run` and `start` print. Last line: 'desk: K checks passed'.
 # It needs `rt` and second/target/release/second. On Arm the programs run under the kit's emulator.
 set -Eeuo pipefail
 cd "$(dirname "${BASH_SOURCE[0]}")/.."
@@ -13,7 +14,7 @@ trap 'rm -rf "$room"' EXIT
 
 rt staticlib desk >"$room/said" 2>&1 || { cat "$room/said"; exit 1; }
 
-# the kit's clang brings no headers of its own: the few declarations that the two programs use
+# the kit's clang brings no headers of its own: the few declarations that the programs use
 mkdir "$room/std"
 cat >"$room/std/stddef.h" <<'H'
 #pragma once
@@ -35,6 +36,18 @@ typedef struct file FILE;
 extern FILE *stdin;
 int printf(const char *, ...);
 size_t fread(void *, size_t, size_t, FILE *);
+FILE *fopen(const char *, const char *);
+int fclose(FILE *);
+H
+cat >"$room/std/pthread.h" <<'H'
+#pragma once
+#include <stddef.h>
+typedef unsigned long pthread_t;
+typedef union { char bytes[56]; long aligned; } pthread_attr_t;
+int pthread_attr_init(pthread_attr_t *);
+int pthread_attr_setstack(pthread_attr_t *, void *, size_t);
+int pthread_create(pthread_t *, const pthread_attr_t *, void *(*)(void *), void *);
+int pthread_join(pthread_t, void **);
 H
 cat >"$room/std/string.h" <<'H'
 #pragma once
@@ -48,16 +61,26 @@ build() {
     "$tools/bin/clang" --target=x86_64-unknown-linux-gnu -std=c11 -O2 -fPIC -Wall -Wextra -Werror -nostdinc -isystem "$room/std" -Iinclude -c "examples/$1.c" -o "$room/$1.o"
     "$own/bin/rattle-link" --target x86_64-unknown-linux-gnu --toolchain "$tools" -o "$room/$1" "$room/$1.o" target/staticlib/libdesk.a 2>"$room/said" || { cat "$room/said"; exit 1; }
 }
+emulator=
+if [ -x "$tools/bin/qemu-x86_64" ]; then emulator=$tools/bin/qemu-x86_64; fi
 run() {
-    local program=$room/$1 emulator=
-    if [ -x "$tools/bin/qemu-x86_64" ]; then emulator=$tools/bin/qemu-x86_64; fi
-    ${emulator:+"$emulator"} "$tools/lib/ld-linux-x86-64.so.2" --library-path "$tools/lib" "$program"
+    local program=$room/$1
+    shift
+    ${emulator:+"$emulator"} "$tools/lib/ld-linux-x86-64.so.2" --library-path "$tools/lib" "$program" "$@"
 }
 
 build desk
 build desk_checks
+build desk_stack
 run desk_checks | tee "$room/checks"
 checks=$(sed -n 's/^desk: \([0-9]*\) checks passed$/\1/p' "$room/checks")
+
+# the stack is what the processor's own code takes: nothing is measured under the emulator
+if [ -z "$emulator" ]; then
+    "$second" sized 32768 >"$room/large"
+    run desk_stack examples/*.janus "$room/large" | tee "$room/stack"
+    checks=$((checks + $(sed -n 's/^desk: \([0-9]*\) programs walked$/\1/p' "$room/stack")))
+fi
 
 # what `run` prints, then as many steps back, refused with 30 at the start, with every cell 0
 for file in examples/*.janus; do

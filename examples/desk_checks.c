@@ -20,6 +20,8 @@ _Static_assert(sizeof(struct ladrukhi_answer) == 24, "answer");
 _Static_assert(offsetof(struct ladrukhi_answer, record) == 8, "record");
 _Static_assert(offsetof(struct ladrukhi_answer, count) == 16, "told count");
 _Static_assert(sizeof(struct ladrukhi_counts) == 40, "counts");
+_Static_assert(LADRUKHI_FILE_TOO_LONG == 1 && LADRUKHI_OWN_NAME == 8 && LADRUKHI_WRONG_CELL_COUNT == 20 && LADRUKHI_BUFFER_TOO_SHORT == 23, "numbers");
+_Static_assert(LADRUKHI_SAVED_BYTES == 4 + 8 + 4 * LADRUKHI_FRAMES + 4 + 4 * LADRUKHI_CELLS, "a PLACE record and a STORE record");
 
 #define GUARD 64
 #define FILL 0xA5
@@ -95,7 +97,7 @@ struct lent {
 };
 
 static struct lent now, was;
-static uint8_t buffer[GUARD + LADRUKHI_SESSION_BYTES + GUARD], old_buffer[sizeof buffer];
+static uint8_t buffer[GUARD + LADRUKHI_SAVED_BYTES + GUARD], old_buffer[sizeof buffer];
 static uint8_t old_program[sizeof program], old_saved[sizeof saved];
 
 #define P program + GUARD, length
@@ -137,7 +139,7 @@ static void refuses(const uint8_t *p, size_t n, unsigned reason, size_t record, 
     check(is(ladrukhi_run(p, n, &now.s, 0), reason, record, 0) && same(), "run of 0", line);
     check(is(ladrukhi_run(p, n, &now.s, 4294967295u), reason, record, 0) && same(), "run", line);
     check(is(ladrukhi_run_back(p, n, &now.s, 7), reason, record, 0) && same(), "run_back", line);
-    check(is(ladrukhi_save(p, n, &now.s, buffer + GUARD, LADRUKHI_SESSION_BYTES), reason, record, 0) && same(), "save", line);
+    check(is(ladrukhi_save(p, n, &now.s, buffer + GUARD, LADRUKHI_SAVED_BYTES), reason, record, 0) && same(), "save", line);
 }
 #define REFUSES(reason) refuses(P, reason, 0, __LINE__)
 
@@ -164,7 +166,7 @@ static int rest_filled(void) {
 static void fields(void) {
     fresh();
     CHECK(now.s.place.direction == LADRUKHI_UP && now.s.place.a == 16 && now.s.place.b == 15 && now.s.place.count == 3 && now.s.count == 5);
-    CHECK(now.s.place.kinds[0] == 4 && now.s.place.kinds[1] == 0 && now.s.place.kinds[2] == 2);
+    CHECK(now.s.place.kinds[0] == LADRUKHI_IN_CALL && now.s.place.kinds[1] == LADRUKHI_TRUE_BRANCH && now.s.place.kinds[2] == LADRUKHI_IN_S1);
     CHECK(now.s.place.labels[0] == 10 && now.s.place.labels[1] == 13 && now.s.place.labels[2] == 14);
     int zero = 1;
     for (size_t i = 3; i < LADRUKHI_FRAMES; i++)
@@ -190,9 +192,9 @@ static void moves(void) {
 static void saves(void) {
     fresh();
     keep();
-    struct ladrukhi_answer a = ladrukhi_save(P, &now.s, buffer + GUARD, LADRUKHI_SESSION_BYTES);
+    struct ladrukhi_answer a = ladrukhi_save(P, &now.s, buffer + GUARD, LADRUKHI_SAVED_BYTES);
     CHECK(is(a, 0, 0, SIZE) && guarded() && memcmp(buffer + GUARD, SAVED, SIZE) == 0);
-    CHECK(memcmp(buffer + GUARD + SIZE, old_buffer + GUARD + SIZE, LADRUKHI_SESSION_BYTES - SIZE) == 0 && memcmp(&now, &was, sizeof now) == 0);
+    CHECK(memcmp(buffer + GUARD + SIZE, old_buffer + GUARD + SIZE, LADRUKHI_SAVED_BYTES - SIZE) == 0 && memcmp(&now, &was, sizeof now) == 0);
     memset(buffer, FILL, sizeof buffer);
     keep();
     CHECK(is(ladrukhi_save(P, &now.s, buffer + GUARD, SIZE - 1), 23, 0, 0) && same());
@@ -241,6 +243,8 @@ static void starts(void) {
     CHECK(now.s.place.a == 1 && now.s.place.b == 2 && now.s.place.direction == LADRUKHI_DOWN && now.s.place.count == 0 && now.s.count == 5);
     CHECK(now.s.cells[0] == 0 && now.s.cells[4] == 0);
     CHECK(is(ladrukhi_start(P, &now.s, LADRUKHI_UP), 0, 0, 0) && guarded() && now.s.place.a == 11 && now.s.place.b == 10 && now.s.place.direction == LADRUKHI_UP);
+    keep();
+    CHECK(is(ladrukhi_start(P, &now.s, 4294967295u), 0, 0, 0) && same());
 }
 
 static void programs(void) {
@@ -248,8 +252,6 @@ static void programs(void) {
     CHECK(c.reason == 0 && c.record == 0 && c.records == 24 && c.procedures == 2 && c.cells == 5);
     c = ladrukhi_check(program + GUARD, length - 1);
     CHECK(c.reason == 2 && c.record == 23 && c.records == 0 && c.procedures == 0 && c.cells == 0);
-    c = ladrukhi_check(NULL, 0);
-    CHECK(c.reason == 6 && c.record == 0);
     fresh();
     refuses(program + GUARD, length - 1, 2, 23, __LINE__);
     keep();
@@ -257,6 +259,19 @@ static void programs(void) {
     CHECK(is(ladrukhi_start(program + GUARD, length - 1, &now.s, 0), 2, 23, 0) && same());
     now.s.count = 5000;
     refuses(program + GUARD, length - 1, 2, 23, __LINE__);
+}
+
+/* Where a length is 0 the pointer is not looked at. */
+static void nothing(void) {
+    struct ladrukhi_counts c = ladrukhi_check(NULL, 0);
+    CHECK(c.reason == LADRUKHI_OUT_OF_ORDER && c.record == 0);
+    fresh();
+    refuses(NULL, 0, LADRUKHI_OUT_OF_ORDER, 0, __LINE__);
+    keep();
+    CHECK(is(ladrukhi_start(NULL, 0, &now.s, LADRUKHI_DOWN), LADRUKHI_OUT_OF_ORDER, 0, 0) && same());
+    CHECK(is(ladrukhi_open(NULL, 0, NULL, 0, &now.s), LADRUKHI_OUT_OF_ORDER, 0, 0) && same());
+    CHECK(is(ladrukhi_open(P, NULL, 0, &now.s), LADRUKHI_SAVED_MALFORMED, 0, 0) && same());
+    CHECK(is(ladrukhi_save(P, &now.s, NULL, 0), LADRUKHI_BUFFER_TOO_SHORT, 0, 0) && same());
 }
 
 int main(void) {
@@ -269,6 +284,7 @@ int main(void) {
     opens();
     starts();
     programs();
+    nothing();
     if (failed != 0)
         return 1;
     printf("desk: %lu checks passed\n", passed);

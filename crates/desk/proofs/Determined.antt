@@ -3,17 +3,20 @@
 -- `Post`: for those the theorems are stated of the definition that the contract cites, at the answer and the session afterwards.
 -- A file's elements are bytes, as its type says.
 use Prim.Native.Nat.{ℕ}
-use mathlib.Core.Bool.{Bool}
 use mathlib.Core.List.{List}
 use mathlib.Core.Path.{_≡_, ap}
 use contract.Lifetimes.{Lfts}
 use Rattle.codes.specs.Codes.{AllBytes}
+use Rattle.order.specs.Trees.{Tree}
+use Rattle.moves.specs.Places.{Place}
+use Rattle.moves.specs.Stores.{Answer as Arrival, Store}
+use Rattle.moves.specs.Step.{step, stepBack}
+use Rattle.moves.specs.Runs.{Ran, run, runBack}
 use Rattle.desk.specs.declared.Session.{Session}
 use Rattle.desk.specs.declared.Answer.{Answer}
 use Rattle.desk.specs.declared.Outcome.{Outcome}
-use Rattle.desk.specs.Desk.{made, MoveSays, BeginSays, OpenSays, SavingSays}
-use Rattle.desk.proofs.OneAnswer.{move-one, begin-one, open-one, saving-one, check-one}
-use Rattle.desk.proofs.moved.Reads as moved
+use Rattle.desk.specs.Desk.{made, SteppedSays, RanSays, BeginSays, OpenSays, SavingSays}
+use Rattle.desk.proofs.OneAnswer.{stepped-one, ran-one, begin-one, open-one, saving-one, check-one}
 use Rattle.desk.proofs.ran.Reads as ran
 use Rattle.desk.proofs.ran_back.Reads as ran-back
 use Rattle.desk.proofs.stepped.Reads as stepped
@@ -24,20 +27,17 @@ use Rattle.desk.proofs.saving.Reads as saving
 use Rattle.desk.proofs.ladrukhi_check.Reads as check
 
 module _ (κs : Lfts 1) where
-  pub moved-determined : (a : _) (r r′ : _) (s s′ : _) → moved.Post κs a r s → moved.Post κs a r′ s′ → AllBytes (a .0 .now) → r ≡ r′
-  moved-determined a r r′ s s′ p q B = move-one B _ _ _ p q
-
   pub ran-determined : (a : _) (r r′ : _) (s s′ : _) → ran.Post κs a r s → ran.Post κs a r′ s′ → AllBytes (a .0 .now) → r ≡ r′
-  ran-determined a r r′ s s′ p q B = move-one B _ _ _ p q
+  ran-determined a r r′ s s′ p q B = ran-one B _ run _ p q
 
   pub ran-back-determined : (a : _) (r r′ : _) (s s′ : _) → ran-back.Post κs a r s → ran-back.Post κs a r′ s′ → AllBytes (a .0 .now) → r ≡ r′
-  ran-back-determined a r r′ s s′ p q B = move-one B _ _ _ p q
+  ran-back-determined a r r′ s s′ p q B = ran-one B _ runBack _ p q
 
   pub stepped-determined : (a : _) (r r′ : _) (s s′ : _) → stepped.Post κs a r s → stepped.Post κs a r′ s′ → AllBytes (a .0 .now) → r ≡ r′
-  stepped-determined a r r′ s s′ p q B = move-one B _ _ _ p q
+  stepped-determined a r r′ s s′ p q B = stepped-one B _ step p q
 
   pub stepped-back-determined : (a : _) (r r′ : _) (s s′ : _) → stepped-back.Post κs a r s → stepped-back.Post κs a r′ s′ → AllBytes (a .0 .now) → r ≡ r′
-  stepped-back-determined a r r′ s s′ p q B = move-one B _ _ _ p q
+  stepped-back-determined a r r′ s s′ p q B = stepped-one B _ stepBack p q
 
   pub started-determined : (a : _) (r r′ : _) (s s′ : _) → started.Post κs a r s → started.Post κs a r′ s′ → AllBytes (a .0 .now) → r ≡ r′
   started-determined a r r′ s s′ p q B = begin-one B _ _ p q
@@ -57,9 +57,13 @@ apart : {a a′ : Answer} {z z′ : Session} → made a z ≡ made a′ z′ →
 apart e = (ap (λ (m : Outcome). m .answer) e, ap (λ (m : Outcome). m .session) e)
 
 module _ {f : List ℕ} (B : AllBytes f) (s : Session) (a a′ : Answer) (z z′ : Session) where
-  -- `ladrukhi_step` (false, 1), `ladrukhi_back` (true, 1), `ladrukhi_run` (false, n), `ladrukhi_run_back` (true, n)
-  pub lent-move-determined : (back : Bool) (n : ℕ) → MoveSays back f s n (made a z) → MoveSays back f s n (made a′ z′) → (a ≡ a′) × (z ≡ z′)
-  lent-move-determined back n p q = apart (move-one B s back n p q)
+  -- `ladrukhi_step` (step), `ladrukhi_back` (stepBack)
+  pub lent-step-determined : (move : Tree → Place → Store → Arrival (Place × Store)) → SteppedSays move f s (made a z) → SteppedSays move f s (made a′ z′) → (a ≡ a′) × (z ≡ z′)
+  lent-step-determined move p q = apart (stepped-one B s move p q)
+
+  -- `ladrukhi_run` (run), `ladrukhi_run_back` (runBack)
+  pub lent-run-determined : (by : Tree → ℕ → Place → Store → Ran) (n : ℕ) → RanSays by f s n (made a z) → RanSays by f s n (made a′ z′) → (a ≡ a′) × (z ≡ z′)
+  lent-run-determined by n p q = apart (ran-one B s by n p q)
 
   -- `ladrukhi_start`
   pub lent-start-determined : (d : ℕ) → BeginSays f s d (made a z) → BeginSays f s d (made a′ z′) → (a ≡ a′) × (z ≡ z′)

@@ -1,6 +1,6 @@
 -- What the desk's calls answer, in the document's numbers, and the session afterwards: for every file and every session.
 use Prim.Native.Nat.{ℕ, _<_, _≤_}
-use mathlib.Core.Bool.{Bool, true, false, not}
+use mathlib.Core.Bool.{Bool, not}
 use mathlib.Core.List.{List, _++_}
 use mathlib.Core.Path.{_≡_}
 use lib.Dec.{eqb}
@@ -10,14 +10,15 @@ use Rattle.place.specs.declared.Place.{Place as Held}
 use Rattle.place.specs.Held.{held}
 use Rattle.order.specs.Trees.{Tree, cells}
 use Rattle.program.specs.Says.{Given, fault, Accepts, Says}
-use Rattle.moves.specs.Places.{Place}
-use Rattle.moves.specs.Stores.{Store}
+use Rattle.moves.specs.Places.{Place, Fits}
+use Rattle.moves.specs.Stores.{Answer as Arrival, Store}
 use Rattle.moves.specs.Step.{start}
 use Rattle.moves.specs.Runs as runs
 use Rattle.session.specs.Session.{Reads}
-use Rattle.machine.specs.Answers.{Gives, Ready, RunSays, direction}
+use Rattle.machine.specs.Answers.{Gives, Ready, StepSays, RunSays, direction}
 use Rattle.machine.specs.declared.Told.{Told}
-use Rattle.saved.specs.Answers.{ReadBefore, SaveSays}
+use Rattle.machine.specs.declared.Told.the-variants.{Done, Refused}
+use Rattle.saved.specs.Answers.{SaveSays}
 use Rattle.desk.specs.declared.Session.{Session}
 use Rattle.desk.specs.declared.Answer.{Answer}
 use Rattle.desk.specs.declared.Outcome.{Outcome}
@@ -44,16 +45,24 @@ pub data OverSays (f : List ℕ) : ℕ → ℕ → Type 0 where
   program : {n k : ℕ} → Says f (fault n k) → OverSays f n k
   size : {t : Tree} → Accepts f t → OverSays f 20 0
 
--- Forward, or back.
-abbrev pub way : Bool → Tree → ℕ → Place → Store → runs.Ran
-way false = runs.run
-way true = runs.runBack
+-- A move of the session: what `says` says from its place over its store, in numbers; the session is then at the last place with the last store.
+pub data MoveSays (says : Told → ℕ → Held → Store → Type 0) (f : List ℕ) (s : Session) (m : Outcome) : Type 0 where
+  over : {reason k : ℕ} → 2048 < s .count → OverSays f reason k → m ≡ made (numbers reason k 0) s → MoveSays says f s m
+  within : {told : Told} {reason k steps : ℕ} {q : Held} {σ : Store} → s .count ≤ 2048 → says told steps q σ → Gives told reason k
+      → m ≡ made (numbers reason k steps) (laid s q (s .count) σ) → MoveSays says f s m
 
--- A run of n steps from the session's place over its store.
-pub data MoveSays (back : Bool) (f : List ℕ) (s : Session) (n : ℕ) (m : Outcome) : Type 0 where
-  over : {reason k : ℕ} → 2048 < s .count → OverSays f reason k → m ≡ made (numbers reason k 0) s → MoveSays back f s n m
-  within : {told : Told} {reason k steps : ℕ} {q : Held} {σ : Store} → s .count ≤ 2048 → RunSays (way back) f (s .place) (storeOf s) n told steps q σ
-      → Gives told reason k → m ≡ made (numbers reason k steps) (laid s q (s .count) σ) → MoveSays back f s n m
+-- The steps made by a step: one, or none where it is refused.
+abbrev pub stepsOf : Told → ℕ
+stepsOf Done = 1
+stepsOf (Refused n k) = 0
+
+-- "A refused step returns its number and the same place; the store is untouched": a step, forward or back.
+abbrev pub SteppedSays : (Tree → Place → Store → Arrival (Place × Store)) → List ℕ → Session → Outcome → Type 0
+SteppedSays move f s = MoveSays (λ told steps q σ. StepSays move f (s .place) (storeOf s) told q σ × (steps ≡ stepsOf told)) f s
+
+-- A run of at most n steps, forward or back.
+abbrev pub RanSays : (Tree → ℕ → Place → Store → runs.Ran) → List ℕ → Session → ℕ → Outcome → Type 0
+RanSays run f s n = MoveSays (RunSays run f (s .place) (storeOf s) n) f s
 
 -- 0 is down, any other number up.
 abbrev pub upward : ℕ → Bool
@@ -65,9 +74,17 @@ pub data BeginSays (f : List ℕ) (s : Session) (d : ℕ) (m : Outcome) : Type 0
   begun : {t : Tree} → Accepts f t → m ≡ made (numbers 0 0 0) (laid s (held (start t (direction (upward d)))) (cells t) (replicate (cells t) (pos 0)))
       → BeginSays f s d m
 
--- A session from saved bytes, for a store of the program's size; a refused reading leaves the session.
+-- "Session .. calls check the program first, then 22 (reading), 20, 21": what is refused in opening saved bytes, which are malformed where
+-- they are the file of no place and store.
+pub data OpenBefore (f bytes : List ℕ) : ℕ → ℕ → Type 0 where
+  program : {n k : ℕ} → Says f (fault n k) → OpenBefore f bytes n k
+  malformed : {t : Tree} → Accepts f t → ((p : Place) (σ : Store) → Reads bytes p σ → ⊥) → OpenBefore f bytes 22 0
+  size : {t : Tree} {p : Place} {σ : Store} → Accepts f t → Reads bytes p σ → (length σ ≡ cells t → ⊥) → OpenBefore f bytes 20 0
+  place : {t : Tree} {p : Place} {σ : Store} → Accepts f t → Reads bytes p σ → length σ ≡ cells t → (Fits t p → ⊥) → OpenBefore f bytes 21 0
+
+-- The session of saved bytes; a refused opening leaves the session.
 pub data OpenSays (f bytes : List ℕ) (s : Session) (m : Outcome) : Type 0 where
-  refused : {σ : Store} {n k : ℕ} → ((t : Tree) → Accepts f t → length σ ≡ cells t) → ReadBefore f bytes σ n k → m ≡ made (numbers n k 0) s → OpenSays f bytes s m
+  refused : {n k : ℕ} → OpenBefore f bytes n k → m ≡ made (numbers n k 0) s → OpenSays f bytes s m
   opened : {t : Tree} {p : Place} {q : Held} {σ : Store} → Reads bytes p σ → Ready f q σ t p → m ≡ made (numbers 0 0 0) (laid s q (cells t) σ) → OpenSays f bytes s m
 
 -- A save of the session's place and store: the bytes written are the count.

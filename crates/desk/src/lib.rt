@@ -1,23 +1,25 @@
 // The desk: one current session, lent and moved; and what C calls. Every function is total.
-ghost use mathlib.Core.Bool.{true, false};
 ghost use mathlib.Core.Path.{_≡_};
 ghost use Prim.Native.Nat.{_≤_};
 ghost use lib.IntN.{pos};
 ghost use lib.ListN.{length, replicate};
-ghost use Rattle.machine.specs.Answers.{RunSays};
-ghost use Rattle.desk.specs.Desk.{numbers, made, laid, way, MoveSays, BeginSays, OpenSays, SavingSays, CheckSays};
-ghost use Rattle.desk.specs.Whole.{Numbered, OverTold, Leaves, Settles};
-use machine::Ran;
+ghost use Rattle.moves.specs.Step.{step, stepBack};
+ghost use Rattle.moves.specs.Runs.{run, runBack};
+ghost use Rattle.desk.specs.Desk.{numbers, made, laid, SteppedSays, RanSays, BeginSays, OpenSays, SavingSays, CheckSays};
+ghost use Rattle.desk.specs.Whole.{Numbered, Over, Leaves, Settles};
 use machine::Told;
 use place::Place;
 use program::Checked;
+
+// No program has more cells.
+const CELLS: usize = 2048;
 
 // A place, and the store in the first `count` cells.
 #[repr(C)]
 pub struct Session {
     pub place: Place,
     pub count: usize,
-    pub cells: [i32; 2048],
+    pub cells: [i32; CELLS],
 }
 
 // The document's number (0: not refused), the record (0 where there is none), and the count that the call tells.
@@ -62,76 +64,132 @@ fn in_numbers(told: Told, count: usize) -> Answer
     }
 }
 
-// What a session is told whose count no program has.
-fn over(file: &[u8]) -> Told
-    ensures { λ r. ⌜ OverTold (now (file .entry)) r ⌝ }
+// Refused, the session as it was.
+fn refused(session: Session, number: u8, k: usize) -> Outcome
+    ensures { λ r. ⌜ r ≡ made (numbers number k 0) session ⌝ }
+{
+    let answer = Answer {
+        reason: number,
+        label: k,
+        count: 0,
+    };
+    Outcome { session, answer }
+}
+
+// A session whose count no program has.
+fn over(file: &[u8], session: Session) -> Outcome
+    ensures { λ r. ⌜ Over (now (file .entry)) session r ⌝ }
 {
     match program::check(file) {
-        Checked::Refused(number, k) => Told::Refused(number, k),
-        Checked::Accepted(_, _, _) => Told::Refused(20, 0),
+        Checked::Refused(number, k) => refused(session, number, k),
+        Checked::Accepted(_, _, _) => refused(session, 20, 0),
     }
 }
 
-// A run forward, or back.
-fn run_by(file: &[u8], place: Place, store: &mut [i32], back: bool, n: u32) -> Ran
-    ensures { λ r. ⌜ RunSays (way back) (now (file .entry)) place (now (store .entry)) n (r .told) (r .steps) (r .place) (now (store .exit)) ⌝ }
+// What is left where a refusal leaves all as it was: that session, or the new one and the count that is told of it.
+fn settled(session: Session, told: Told, next: Session, count: usize) -> Outcome
+    ensures { λ r. ⌜ Leaves session told next count r ⌝ }
 {
-    if back {
-        return machine::run_back(file, place, store, n);
+    match told {
+        Told::Refused(number, k) => refused(session, number, k),
+        Told::Done => {
+            let answer = Answer {
+                reason: 0,
+                label: 0,
+                count,
+            };
+            Outcome {
+                session: next,
+                answer,
+            }
+        }
     }
-    machine::run(file, place, store, n)
 }
 
-// The session by value, moved at most n steps.
-pub fn moved(file: &[u8], session: Session, back: bool, n: u32) -> Outcome
-    ensures { λ r. ⌜ MoveSays back (now (file .entry)) session n r ⌝ }
+// A step forward.
+pub fn stepped(file: &[u8], session: Session) -> Outcome
+    ensures { λ r. ⌜ SteppedSays step (now (file .entry)) session r ⌝ }
 {
     let count = session.count;
-    if 2048 < count {
-        let told = over(file);
-        let answer = in_numbers(told, 0);
-        return Outcome { session, answer };
+    if CELLS < count {
+        return over(file, session);
     }
     let place = session.place;
     let mut cells = session.cells;
-    let r = run_by(file, place, &mut cells[..count], back, n);
+    let r = machine::step(file, place, &mut cells[..count]);
     let told = r.told;
-    let last = r.place;
+    let place = r.place;
+    let next = Session {
+        place,
+        count,
+        cells,
+    };
+    settled(session, told, next, 1)
+}
+
+// A step back.
+pub fn stepped_back(file: &[u8], session: Session) -> Outcome
+    ensures { λ r. ⌜ SteppedSays stepBack (now (file .entry)) session r ⌝ }
+{
+    let count = session.count;
+    if CELLS < count {
+        return over(file, session);
+    }
+    let place = session.place;
+    let mut cells = session.cells;
+    let r = machine::back(file, place, &mut cells[..count]);
+    let told = r.told;
+    let place = r.place;
+    let next = Session {
+        place,
+        count,
+        cells,
+    };
+    settled(session, told, next, 1)
+}
+
+// At most n steps forward.
+pub fn ran(file: &[u8], session: Session, n: u32) -> Outcome
+    ensures { λ r. ⌜ RanSays run (now (file .entry)) session n r ⌝ }
+{
+    let count = session.count;
+    if CELLS < count {
+        return over(file, session);
+    }
+    let place = session.place;
+    let mut cells = session.cells;
+    let r = machine::run(file, place, &mut cells[..count], n);
+    let told = r.told;
+    let place = r.place;
     let answer = in_numbers(told, r.steps as usize);
     let session = Session {
-        place: last,
+        place,
         count,
         cells,
     };
     Outcome { session, answer }
 }
 
-// At most n steps forward.
-pub fn ran(file: &[u8], session: Session, n: u32) -> Outcome
-    ensures { λ r. ⌜ MoveSays false (now (file .entry)) session n r ⌝ }
-{
-    moved(file, session, false, n)
-}
-
 // At most n steps back.
 pub fn ran_back(file: &[u8], session: Session, n: u32) -> Outcome
-    ensures { λ r. ⌜ MoveSays true (now (file .entry)) session n r ⌝ }
+    ensures { λ r. ⌜ RanSays runBack (now (file .entry)) session n r ⌝ }
 {
-    moved(file, session, true, n)
-}
-
-// A step forward.
-pub fn stepped(file: &[u8], session: Session) -> Outcome
-    ensures { λ r. ⌜ MoveSays false (now (file .entry)) session 1 r ⌝ }
-{
-    moved(file, session, false, 1)
-}
-
-// A step back.
-pub fn stepped_back(file: &[u8], session: Session) -> Outcome
-    ensures { λ r. ⌜ MoveSays true (now (file .entry)) session 1 r ⌝ }
-{
-    moved(file, session, true, 1)
+    let count = session.count;
+    if CELLS < count {
+        return over(file, session);
+    }
+    let place = session.place;
+    let mut cells = session.cells;
+    let r = machine::run_back(file, place, &mut cells[..count], n);
+    let told = r.told;
+    let place = r.place;
+    let answer = in_numbers(told, r.steps as usize);
+    let session = Session {
+        place,
+        count,
+        cells,
+    };
+    Outcome { session, answer }
 }
 
 // Zeros in every cell.
@@ -159,18 +217,6 @@ fn laid_out(session: Session, place: Place, count: usize) -> Session
     }
 }
 
-// Refused, the session as it was.
-fn refused(session: Session, number: u8, k: usize) -> Outcome
-    ensures { λ r. ⌜ r ≡ made (numbers number k 0) session ⌝ }
-{
-    let answer = Answer {
-        reason: number,
-        label: k,
-        count: 0,
-    };
-    Outcome { session, answer }
-}
-
 // A start of the program over zeros, down where the direction is 0, else up.
 pub fn started(file: &[u8], session: Session, direction: u32) -> Outcome
     ensures { λ r. ⌜ BeginSays (now (file .entry)) session direction r ⌝ }
@@ -179,28 +225,10 @@ pub fn started(file: &[u8], session: Session, direction: u32) -> Outcome
         Checked::Refused(number, k) => refused(session, number, k),
         Checked::Accepted(_, _, count) => {
             let r = machine::start(file, direction != 0);
+            let told = r.told;
             let place = r.place;
-            let session = laid_out(session, place, count);
-            let answer = in_numbers(Told::Done, 0);
-            Outcome { session, answer }
-        }
-    }
-}
-
-// What a reading leaves: the session that was read, or the one that was there.
-fn settled(session: Session, told: Told, place: Place, count: usize, cells: [i32; 2048]) -> Outcome
-    ensures { λ r. ⌜ Leaves session told place count cells r ⌝ }
-{
-    match told {
-        Told::Refused(number, k) => refused(session, number, k),
-        Told::Done => {
-            let session = Session {
-                place,
-                count,
-                cells,
-            };
-            let answer = in_numbers(Told::Done, 0);
-            Outcome { session, answer }
+            let next = laid_out(session, place, count);
+            settled(session, told, next, 0)
         }
     }
 }
@@ -214,7 +242,12 @@ fn read_in(file: &[u8], saved: &[u8], session: Session, count: usize) -> Outcome
     let r = saved::read(file, saved, &mut cells[..count]);
     let told = r.told;
     let place = r.place;
-    settled(session, told, place, count, cells)
+    let next = Session {
+        place,
+        count,
+        cells,
+    };
+    settled(session, told, next, 0)
 }
 
 // The session of a session file.
@@ -232,8 +265,9 @@ pub fn saving(file: &[u8], session: Session, buffer: &mut [u8]) -> Answer
     ensures { λ r. ⌜ SavingSays (now (file .entry)) session (now (buffer .entry)) r (now (buffer .exit)) ⌝ }
 {
     let count = session.count;
-    if 2048 < count {
-        return in_numbers(over(file), 0);
+    if CELLS < count {
+        let o = over(file, session);
+        return o.answer;
     }
     let place = session.place;
     let cells = session.cells;
@@ -290,7 +324,7 @@ pub extern "C" fn ladrukhi_open(file: &[u8], saved: &[u8], session: &mut Session
 // A step forward.
 #[no_mangle]
 pub extern "C" fn ladrukhi_step(file: &[u8], session: &mut Session) -> Answer
-    ensures { λ r. ⌜ MoveSays false (now (file .entry)) (now (session .entry)) 1 (made r (now (session .exit))) ⌝ }
+    ensures { λ r. ⌜ SteppedSays step (now (file .entry)) (now (session .entry)) (made r (now (session .exit))) ⌝ }
 {
     let o = stepped(file, *session);
     *session = o.session;
@@ -300,7 +334,7 @@ pub extern "C" fn ladrukhi_step(file: &[u8], session: &mut Session) -> Answer
 // A step back.
 #[no_mangle]
 pub extern "C" fn ladrukhi_back(file: &[u8], session: &mut Session) -> Answer
-    ensures { λ r. ⌜ MoveSays true (now (file .entry)) (now (session .entry)) 1 (made r (now (session .exit))) ⌝ }
+    ensures { λ r. ⌜ SteppedSays stepBack (now (file .entry)) (now (session .entry)) (made r (now (session .exit))) ⌝ }
 {
     let o = stepped_back(file, *session);
     *session = o.session;
@@ -310,7 +344,7 @@ pub extern "C" fn ladrukhi_back(file: &[u8], session: &mut Session) -> Answer
 // At most n steps forward.
 #[no_mangle]
 pub extern "C" fn ladrukhi_run(file: &[u8], session: &mut Session, n: u32) -> Answer
-    ensures { λ r. ⌜ MoveSays false (now (file .entry)) (now (session .entry)) n (made r (now (session .exit))) ⌝ }
+    ensures { λ r. ⌜ RanSays run (now (file .entry)) (now (session .entry)) n (made r (now (session .exit))) ⌝ }
 {
     let o = ran(file, *session, n);
     *session = o.session;
@@ -320,7 +354,7 @@ pub extern "C" fn ladrukhi_run(file: &[u8], session: &mut Session, n: u32) -> An
 // At most n steps back.
 #[no_mangle]
 pub extern "C" fn ladrukhi_run_back(file: &[u8], session: &mut Session, n: u32) -> Answer
-    ensures { λ r. ⌜ MoveSays true (now (file .entry)) (now (session .entry)) n (made r (now (session .exit))) ⌝ }
+    ensures { λ r. ⌜ RanSays runBack (now (file .entry)) (now (session .entry)) n (made r (now (session .exit))) ⌝ }
 {
     let o = ran_back(file, *session, n);
     *session = o.session;

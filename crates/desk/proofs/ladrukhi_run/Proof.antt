@@ -1,9 +1,9 @@
 -- `desk::ladrukhi_run` meets its contract: LendingNumber. Assumes nothing.
-use mathlib.Core.Bool.{false}
 use contract.Running.{givenOf, tables, tablesOf}
 use denote.Triple.Spec.{tripleOf}
 use denote.Triple.Table.{entered, cited}
-use Rattle.desk.specs.Desk.{MoveSays}
+use Rattle.moves.specs.Runs.{run}
+use Rattle.desk.specs.Desk.{RanSays}
 use Rattle.desk.proofs.LendingNumber.{Whole, meets}
 use Rattle.desk.proofs.ran.Symbol as callee
 use Rattle.desk.proofs.ran.Met as callee-meets
@@ -17,5 +17,5 @@ unfolding code.routine tablesOf
 ladrukhi-run-spec 𝓤 H 𝓜 𝓖 𝓡 =
     entered 𝓤 H (tripleOf 𝓤 H (𝓖 .A) lent.signature (lent.spec 𝓤 H (𝓖 .A) (𝓜 .mem) (𝓡 .run)))
     (tables 𝓤 H 𝓜 𝓡 code.env .C) (tables 𝓤 H 𝓜 𝓡 code.env .Λ) name code.function (code.unfolded 𝓤 H 𝓜 𝓡)
-    (meets (MoveSays false) 𝓤 H (𝓖 .A) (givenOf 𝓤 H 𝓜 𝓖) callee.name (tablesOf 𝓤 H 𝓜 (tables 𝓤 H 𝓜 𝓡 code.env))
-    (cited 𝓤 H (Whole (MoveSays false) 𝓤 H (𝓖 .A)) 𝓜 𝓡 code.env callee.name callee.routine code.calls-desk·ran (callee-meets.met 𝓤 H 𝓜 𝓖 𝓡)))
+    (meets (RanSays run) 𝓤 H (𝓖 .A) (givenOf 𝓤 H 𝓜 𝓖) callee.name (tablesOf 𝓤 H 𝓜 (tables 𝓤 H 𝓜 𝓡 code.env))
+    (cited 𝓤 H (Whole (RanSays run) 𝓤 H (𝓖 .A)) 𝓜 𝓡 code.env callee.name callee.routine code.calls-desk·ran (callee-meets.met 𝓤 H 𝓜 𝓖 𝓡)))

@@ -1,9 +1,9 @@
 -- `desk::ladrukhi_run_back` meets its contract: LendingNumber. Assumes nothing.
-use mathlib.Core.Bool.{true}
 use contract.Running.{givenOf, tables, tablesOf}
 use denote.Triple.Spec.{tripleOf}
 use denote.Triple.Table.{entered, cited}
-use Rattle.desk.specs.Desk.{MoveSays}
+use Rattle.moves.specs.Runs.{runBack}
+use Rattle.desk.specs.Desk.{RanSays}
 use Rattle.desk.proofs.LendingNumber.{Whole, meets}
 use Rattle.desk.proofs.ran_back.Symbol as callee
 use Rattle.desk.proofs.ran_back.Met as callee-meets
@@ -17,5 +17,5 @@ unfolding code.routine tablesOf
 ladrukhi-run-back-spec 𝓤 H 𝓜 𝓖 𝓡 =
     entered 𝓤 H (tripleOf 𝓤 H (𝓖 .A) lent.signature (lent.spec 𝓤 H (𝓖 .A) (𝓜 .mem) (𝓡 .run)))
     (tables 𝓤 H 𝓜 𝓡 code.env .C) (tables 𝓤 H 𝓜 𝓡 code.env .Λ) name code.function (code.unfolded 𝓤 H 𝓜 𝓡)
-    (meets (MoveSays true) 𝓤 H (𝓖 .A) (givenOf 𝓤 H 𝓜 𝓖) callee.name (tablesOf 𝓤 H 𝓜 (tables 𝓤 H 𝓜 𝓡 code.env))
-    (cited 𝓤 H (Whole (MoveSays true) 𝓤 H (𝓖 .A)) 𝓜 𝓡 code.env callee.name callee.routine code.calls-desk·ran-back (callee-meets.met 𝓤 H 𝓜 𝓖 𝓡)))
+    (meets (RanSays runBack) 𝓤 H (𝓖 .A) (givenOf 𝓤 H 𝓜 𝓖) callee.name (tablesOf 𝓤 H 𝓜 (tables 𝓤 H 𝓜 𝓡 code.env))
+    (cited 𝓤 H (Whole (RanSays runBack) 𝓤 H (𝓖 .A)) 𝓜 𝓡 code.env callee.name callee.routine code.calls-desk·ran-back (callee-meets.met 𝓤 H 𝓜 𝓖 𝓡)))

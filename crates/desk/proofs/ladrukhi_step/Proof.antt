@@ -1,9 +1,9 @@
 -- `desk::ladrukhi_step` meets its contract: Lending. Assumes nothing.
-use mathlib.Core.Bool.{false}
 use contract.Running.{givenOf, tables, tablesOf}
 use denote.Triple.Spec.{tripleOf}
 use denote.Triple.Table.{entered, cited}
-use Rattle.desk.specs.Desk.{MoveSays}
+use Rattle.moves.specs.Step.{step}
+use Rattle.desk.specs.Desk.{SteppedSays}
 use Rattle.desk.proofs.Lending.{Whole, meets}
 use Rattle.desk.proofs.stepped.Symbol as callee
 use Rattle.desk.proofs.stepped.Met as callee-meets
@@ -17,5 +17,5 @@ unfolding code.routine tablesOf
 ladrukhi-step-spec 𝓤 H 𝓜 𝓖 𝓡 =
     entered 𝓤 H (tripleOf 𝓤 H (𝓖 .A) lent.signature (lent.spec 𝓤 H (𝓖 .A) (𝓜 .mem) (𝓡 .run)))
     (tables 𝓤 H 𝓜 𝓡 code.env .C) (tables 𝓤 H 𝓜 𝓡 code.env .Λ) name code.function (code.unfolded 𝓤 H 𝓜 𝓡)
-    (meets (λ f s. MoveSays false f s 1) 𝓤 H (𝓖 .A) (givenOf 𝓤 H 𝓜 𝓖) callee.name (tablesOf 𝓤 H 𝓜 (tables 𝓤 H 𝓜 𝓡 code.env))
-    (cited 𝓤 H (Whole (λ f s. MoveSays false f s 1) 𝓤 H (𝓖 .A)) 𝓜 𝓡 code.env callee.name callee.routine code.calls-desk·stepped (callee-meets.met 𝓤 H 𝓜 𝓖 𝓡)))
+    (meets (SteppedSays step) 𝓤 H (𝓖 .A) (givenOf 𝓤 H 𝓜 𝓖) callee.name (tablesOf 𝓤 H 𝓜 (tables 𝓤 H 𝓜 𝓡 code.env))
+    (cited 𝓤 H (Whole (SteppedSays step) 𝓤 H (𝓖 .A)) 𝓜 𝓡 code.env callee.name callee.routine code.calls-desk·stepped (callee-meets.met 𝓤 H 𝓜 𝓖 𝓡)))

@@ -11,10 +11,12 @@ over-spec =
     (tie.spec
     (λ c κs. search needs)
     (λ c. search needs)
+    (λ c κs. search needs)
     (λ c. search needs)
+    (λ c κs. search needs)
+    (λ c.
+    let k = c .before .before .before .before in
+    over-refused (k .before .before .args .file .now) (λ i. omega (arith, k .before .shared-slice-known .given i)) (k .check .result) (k .check .ensures) _ _ _ _ (c .before .before .number .given .1) (c .refused .ensures))
     (λ c.
     let k = c .before .before .before in
-    over-refused (k .before .before .args .file .now) (λ i. omega (arith, k .before .shared-slice-known .given i)) (k .check .result) (k .check .ensures) _ _ (c .before .number .given .1))
-    (λ c.
-    let k = c .before .before in
-    over-accepted (k .before .before .args .file .now) (λ i. omega (arith, k .before .shared-slice-known .given i)) (k .check .result) (k .check .ensures) _ _ _ (c .enum-told .given .1)))
+    over-accepted (k .before .before .args .file .now) (λ i. omega (arith, k .before .shared-slice-known .given i)) (k .check .result) (k .check .ensures) _ _ _ _ _ (c .before .enum-told .given .1) (c .refused2 .ensures)))

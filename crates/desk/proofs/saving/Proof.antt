@@ -13,11 +13,10 @@ saving-spec =
     tie.close
     (tie.spec
     (λ c κs. search needs)
-    (λ c κs. search needs)
-    (λ c. saving-over _ _ _ _ _ (c .before .before .if1 .taken) (c .before .over .ensures) (c .in-numbers .ensures))
+    (λ c. saving-over _ _ _ _ (c .before .before .if1 .taken) (c .before .over .ensures))
     (λ c. let e : length (c .before .before .before .before .before .args .session .cells) ≡ 2048 = search needs in omega (arith, e))
     (λ c. let s = c .before .before .before .before .before .before .args .session in let e : length (s .cells) ≡ 2048 = search needs in sym (length-take-le (s .count) (s .cells) (omega (arith, e))))
     (λ c κs. search needs)
     (λ c κs. search needs)
     (λ c. search needs)
-    (λ c. saving-within _ _ _ _ _ _ _ (c .before .before .before .before .before .before .before .before .if1 .left) (c .before .before .before .save .ensures) (c .in-numbers2 .ensures)))
+    (λ c. saving-within _ _ _ _ _ _ _ (c .before .before .before .before .before .before .before .before .if1 .left) (c .before .before .before .save .ensures) (c .in-numbers .ensures)))

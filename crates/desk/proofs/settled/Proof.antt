@@ -1,6 +1,6 @@
 -- `desk::settled` meets its contract. Assumes nothing.
 use borrow.Author.Needs.{needs}
-use Rattle.desk.proofs.Cases.{leaves-refused, leaves-read}
+use Rattle.desk.proofs.Cases.{leaves-refused, leaves-done}
 use Rattle.desk.proofs.settled.Statement.{statement}
 use Rattle.desk.proofs.settled.Tie as tie
 
@@ -11,6 +11,5 @@ settled-spec =
     (λ c. search needs)
     (λ c κs. search needs)
     (λ c. search needs)
-    (λ c κs. search needs)
-    (λ c. leaves-refused _ _ _ _ _ _ _ (c .before .before .told .given .1) _ (c .refused .ensures))
-    (λ c. leaves-read _ _ _ _ _ (c .before .enum-told .given .1) _ (c .in-numbers .ensures)))
+    (λ c. leaves-refused _ _ _ _ _ _ (c .before .before .told .given .1) _ (c .refused .ensures))
+    (λ c. leaves-done _ _ _ _ (c .enum-told .given .1)))

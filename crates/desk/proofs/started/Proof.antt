@@ -19,4 +19,4 @@ started-spec =
     (λ c. let k = c .before .before .before .before in begin-refused (k .before .before .args .file .now) (λ i. omega (arith, k .before .shared-slice-known .given i)) (k .check .result) (k .check .ensures) _ _ _ _ _ (c .before .before .number .given .1) (c .refused .ensures))
     (λ c.
     let k = c .before .before .before .before .before .before .before in
-    begin-begun (k .before .before .args .file .now) (λ i. omega (arith, k .before .shared-slice-known .given i)) (k .check .result) (k .check .ensures) _ _ (c .before .before .before .before .before .count .given .1) _ _ (c .before .before .before .start .ensures) _ (c .before .laid-out .ensures) _ (c .in-numbers .ensures)))
+    begin-begun (k .before .before .args .file .now) (λ i. omega (arith, k .before .shared-slice-known .given i)) (k .check .result) (k .check .ensures) _ _ _ (c .before .before .before .before .before .count .given .1) _ _ (c .before .before .before .start .ensures) _ (c .before .laid-out .ensures) (c .settled .ensures)))
