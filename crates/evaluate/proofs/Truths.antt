@@ -15,7 +15,7 @@ use mir.Val.{SFits, Fits, ofZ, boolByte}
 use mir.Facts.{toZ-ofZ, sfits-lit}
 use Rattle.values.specs.Values.{isTrue, eqZ, applyOp}
 use Rattle.values.proofs.Bits.{bits-eq}
-use Rattle.expr.specs.Tree.{Fault, byZero, badIndex, faultNumber, Worth, value, stop, worthOf, eval}
+use Rattle.expr.specs.Tree.{Fault, byZero, badIndex, faultNumber, Worth, stop, worthOf, eval}
 use Rattle.expr.specs.Bytes.{upTo}
 use Rattle.expr.specs.Answers.{InCell}
 use Rattle.expr.proofs.Layer.{upto-bin}

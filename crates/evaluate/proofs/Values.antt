@@ -7,7 +7,7 @@ use native.Mathlib.Nat.{add-comm}
 use native.Mathlib.Omega.{arith}
 use native.Mathlib.Decide.{ℕ-discrete}
 use borrow.Author.Tests.{lt-ltb, le-ltb, ltb-true, eq-eqb, ne-eqb}
-use lib.Dec.{eqb, ltb}
+use lib.Dec.{ltb}
 use lib.IntN.{ℤ, pos, negsuc}
 use lib.ListN.{getD, take, drop, length-take, List·getD-eq-default}
 use lib.Seq.{getD-take, getD-drop}
@@ -23,7 +23,7 @@ use Rattle.values.proofs.Bits.{in32, wide-fits, wide-is}
 use Rattle.values.proofs.Laws.{apply-fits}
 use Rattle.expr.specs.Tree.{Arrays, Fault, byZero, badIndex, Worth, value, stop, worthOf, element, eval}
 use Rattle.expr.specs.Agreement.{both, indexed}
-use Rattle.expr.specs.Bytes.{Got, upTo}
+use Rattle.expr.specs.Bytes.{upTo}
 use Rattle.expr.specs.Answers.{InCell}
 use Rattle.expr.proofs.Agree.{worth-fits}
 use Rattle.expr.proofs.Layer.{upto-none, upto-out, upto-con, upto-var, upto-read, upto-bin}

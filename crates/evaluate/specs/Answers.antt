@@ -11,7 +11,7 @@ use lib.Signed.{ltZ}
 use Rattle.codes.specs.Codes.{word16}
 use Rattle.codes.specs.Numbers.{cellAt}
 use Rattle.values.specs.Values.{isTrue, eqZ}
-use Rattle.expr.specs.Tree.{Arrays, Fault, byZero, badIndex, faultNumber, Worth, value, stop, eval}
+use Rattle.expr.specs.Tree.{Arrays, byZero, badIndex, faultNumber, Worth, value, stop, eval}
 use Rattle.expr.specs.Agreement.{both, indexed}
 use Rattle.expr.specs.Bytes.{Got}
 use Rattle.expr.specs.Answers.{InCell}
