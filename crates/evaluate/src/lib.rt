@@ -20,6 +20,9 @@ const DEPTH: usize = 16;
 // The largest value; what is above it is no value but a refusal, 2^32 and the document's number.
 const MOST: i64 = 2147483647;
 
+const REFUSAL: i64 = 4294967296;
+
+// REFUSAL and 33.
 const BAD_INDEX: i64 = 4294967329;
 
 // The cell i, 0 past the end.
@@ -225,7 +228,7 @@ fn verdict(w: i64) -> u8
     ensures { λ r. ⌜ Verdict w r ⌝ }
 {
     if w > MOST {
-        return (w - 4294967296) as u8;
+        return (w - REFUSAL) as u8;
     }
     (w != 0) as u8
 }
