@@ -2,32 +2,32 @@
 use mathlib.Core.Path.{_≡_, refl, sym, ap, ap₂, _∙_}
 use mathlib.Core.List.{List}
 use mathlib.Core.Bool.{Bool, true, false, cond, false≢true, true≢false}
-use Prim.Native.Nat.{ℕ, _+_, _-_, _^_, _≤_, _<_}
+use Prim.Native.Nat.{ℕ, _+_, _-_, _*_, _^_, _≤_, _<_}
 use native.Mathlib.Nat.{add-comm}
 use native.Mathlib.Omega.{arith}
 use native.Mathlib.Decide.{ℕ-discrete}
 use borrow.Author.Tests.{lt-ltb, le-ltb, ltb-true, eq-eqb, ne-eqb}
-use lib.Dec.{eqb, ltb}
+use lib.Dec.{ltb}
 use lib.IntN.{ℤ, pos, negsuc}
 use lib.ListN.{getD, take, drop, length-take, List·getD-eq-default}
 use lib.Seq.{getD-take, getD-drop}
-use lib.Signed.{ltZ}
+use lib.Signed.{mag, ltZ}
 use mir.Syntax.{w32, w64}
 use mir.Val.{SFits, ofZ, toZ}
 use mir.Facts.{toZ-ofZ, sfits-lit}
 use Rattle.codes.specs.Codes.{word16}
-use Rattle.codes.specs.Numbers.{cellAt}
+use Rattle.codes.specs.Numbers.{word32, cellAt}
 use Rattle.values.specs.Values.{Value, is, zeroDivisor, applyOp}
 use Rattle.values.specs.Packed.{packed}
-use Rattle.values.proofs.Bits.{wide-fits, wide-is}
+use Rattle.values.proofs.Bits.{in32, wide-fits, wide-is}
 use Rattle.values.proofs.Laws.{apply-fits}
 use Rattle.expr.specs.Tree.{Arrays, Fault, byZero, badIndex, Worth, value, stop, worthOf, element, eval}
 use Rattle.expr.specs.Agreement.{both, indexed}
-use Rattle.expr.specs.Bytes.{Got, upTo}
+use Rattle.expr.specs.Bytes.{upTo}
 use Rattle.expr.specs.Answers.{InCell}
 use Rattle.expr.proofs.Agree.{worth-fits}
 use Rattle.expr.proofs.Layer.{upto-none, upto-out, upto-con, upto-var, upto-read, upto-bin}
-use Rattle.evaluate.specs.Answers.{arraysOf, worthAt, packedWorth, unpacked, entryIf, entryOf, movedTo, WorthSays, OnTheWay, readAt, bothAt, leafOf, leafEnd, LeafSays}
+use Rattle.evaluate.specs.Answers.{arraysOf, worthAt, packedWorth, unpacked, entryIf, entryOf, movedTo, WorthSays, OnTheWay, readAt, bothAt, leafOf, leafEnd, LeafSays, Simple}
 use Rattle.evaluate.specs.declared.Entry.{Entry}
 use Rattle.evaluate.specs.declared.Entry.the-variants.{At, Outside}
 
@@ -42,22 +42,21 @@ pub widened : (v : ℤ) → SFits w32 v → SFits w64 (again v)
 widened v f = wide-fits f
 
 -- ---- an answer is told by one test: it is above every value where it is a refusal
-module _ (r : ℤ) (f : SFits w64 r) where
-  pub is-stop : (w : Worth) → r ≡ packedWorth w → InCell w → ltZ (pos 2147483647) (again64 r) ≡ true → (g : Fault) × (w ≡ stop g)
-  is-stop (stop g) e k t = (g, refl)
-  is-stop (value (pos n)) e k t = absurd (omega (arith, ltb-true 2147483647 n (rw (toZ-ofZ f, e) at t)))
-  is-stop (value (negsuc n)) e k t = absurd (false≢true (rw (toZ-ofZ f, e) at t))
+pub is-stop : (z : ℤ) (w : Worth) → z ≡ packedWorth w → InCell w → ltZ (pos 2147483647) z ≡ true → (g : Fault) × (w ≡ stop g)
+is-stop z (stop g) e k t = (g, refl)
+is-stop z (value (pos n)) e k t = absurd (omega (arith, ltb-true 2147483647 n (rw e at t)))
+is-stop z (value (negsuc n)) e k t = absurd (false≢true (rw e at t))
 
-  pub is-value : (w : Worth) → r ≡ packedWorth w → InCell w → ltZ (pos 2147483647) (again64 r) ≡ false → (w ≡ value r) × SFits w32 r
-  is-value (value v) e k t = (ap value (sym e), rw e k)
-  is-value (stop byZero) e k t = absurd (true≢false (rw (toZ-ofZ f, e) at t))
-  is-value (stop badIndex) e k t = absurd (true≢false (rw (toZ-ofZ f, e) at t))
+pub is-value : (z : ℤ) (w : Worth) → z ≡ packedWorth w → InCell w → ltZ (pos 2147483647) z ≡ false → (w ≡ value z) × SFits w32 z
+is-value z (value v) e k t = (ap value (sym e), rw e k)
+is-value z (stop byZero) e k t = absurd (true≢false (rw e at t))
+is-value z (stop badIndex) e k t = absurd (true≢false (rw e at t))
 
-  -- so it can be cast
-  pub narrow : (w : Worth) (next after : ℕ) → OnTheWay w next r after → ltZ (pos 2147483647) (again64 r) ≡ false → SFits w32 (again64 r)
-  narrow w next after o t = rw (toZ-ofZ f) (is-value w (o .answer) (o .range) t .1)
+-- so it can be cast
+pub narrow : (w : Worth) (next after : ℕ) (z : ℤ) → OnTheWay w next z after → ltZ (pos 2147483647) z ≡ false → SFits w32 z
+narrow w next after z o t = is-value z w (o .answer) (o .range) t .1
 
-pub ruleset casts = (widened, narrow)
+pub ruleset casts = (widened)
 
 -- ---- `entry_of`
 module _ (l : List ℕ) (a : ℕ) where
@@ -116,6 +115,14 @@ module _ (A : Arrays) (C : List ℤ) (a : ℕ) where
       go false e = refl
   none (negsuc i) e = refl
 
+-- ---- `four`
+pub four-is : (s : List ℕ) (i : ℕ) (v : ℤ) (n lo hi : ℕ) → SFits w32 v → v ≡ toZ w32 n → n ≡ lo + 65536 * hi → lo ≡ word16 s i → hi ≡ word16 s (i + 2)
+    → again v ≡ cellAt s i
+four-is s i v n lo hi f p q l h =
+    let k : i + 2 + 1 ≡ i + 3 = omega arith in
+    let e : n ≡ word32 s i = q ∙ rw (l, h, k) (omega arith) in
+    toZ-ofZ f ∙ p ∙ ap (toZ w32) e
+
 -- ---- `leaf`
 module _ (s : List ℕ) (at : ℕ) (C : List ℤ) (tag : ℕ) (tg : tag ≡ getD s at 0) (v : ℤ) (f : SFits w32 v) where
   pub leaf-con : tag ≡ 0 → v ≡ cellAt s (at + 1) → LeafSays s at C (again v) (at + 5)
@@ -129,6 +136,16 @@ module _ (s : List ℕ) (at : ℕ) (C : List ℤ) (tag : ℕ) (tg : tag ≡ getD
       record { answer = rw (z, ← q) (toZ-ofZ f ∙ p); place = rw z }
 
 pub ruleset leaves = (leaf-con, leaf-var)
+
+-- ---- `simple`
+module _ (s : List ℕ) (at d : ℕ) where
+  pub simple-no : Simple s at d false
+  simple-no = record { deep = λ e. absurd (false≢true e); near = λ e. absurd (false≢true e); stands = λ e. absurd (false≢true e) }
+
+  pub simple-if : (t : ℕ) → (d ≡ 0 → ⊥) → at < 32768 → t ≡ getD s at 0 → Simple s at d (ltb t 2)
+  simple-if t nz h e = record { deep = λ k. nz; near = λ k. h; stands = λ k. rw e at (ltb-true t 2 k) }
+
+pub ruleset simples = (simple-no, simple-if)
 
 -- a constant or scalar is read at any depth
 module _ (A : List ℕ) (C : List ℤ) (s : List ℕ) (at d : ℕ) (nz : d ≡ 0 → ⊥) (near : at < 32768) (small : getD s at 0 < 2) where
@@ -156,14 +173,25 @@ module _ (w : Worth) (next : ℕ) where
   way-on r after f o = rw (toZ-ofZ f) o
 
 -- what an answer says of the tree's worth, by the test that tells
-module _ (w : Worth) (next : ℕ) (r : ℤ) (after : ℕ) (o : OnTheWay w next r after) (f : SFits w64 r) where
-  told-stop : ltZ (pos 2147483647) (again64 r) ≡ true → (g : Fault) × ((w ≡ stop g) × (again64 r ≡ packedWorth (stop g)))
-  told-stop t = let s = is-stop r f w (o .answer) (o .range) t in (s .0, (s .1, toZ-ofZ f ∙ o .answer ∙ ap packedWorth (s .1)))
+module _ (w : Worth) (next : ℕ) (z : ℤ) (after : ℕ) (o : OnTheWay w next z after) where
+  told-stop : ltZ (pos 2147483647) z ≡ true → (g : Fault) × ((w ≡ stop g) × (z ≡ packedWorth (stop g)))
+  told-stop t = let s = is-stop z w (o .answer) (o .range) t in (s .0, (s .1, o .answer ∙ ap packedWorth (s .1)))
 
-  told-value : ltZ (pos 2147483647) (again64 r) ≡ false → (w ≡ value r) × (SFits w32 r × ((after ≡ next) × (again (again64 r) ≡ r)))
-  told-value t =
-      let s = is-value r f w (o .answer) (o .range) t in
-      (s .0, (s .1, (o .place ∙ ap (λ (w : Worth). movedTo w after next) (s .0), ap again (toZ-ofZ f) ∙ toZ-ofZ (s .1))))
+  told-value : ltZ (pos 2147483647) z ≡ false → (w ≡ value z) × (SFits w32 z × (after ≡ next))
+  told-value t = let s = is-value z w (o .answer) (o .range) t in (s .0, (s .1, o .place ∙ ap (λ (w : Worth). movedTo w after next) (s .0)))
+
+-- an operand, whichever way it was evaluated: its answer is in n, 64 bits
+module _ (A : List ℕ) (C : List ℤ) (s : List ℕ) (at d n mid : ℕ) where
+  abbrev pub Operand : Type 0
+  Operand = OnTheWay (worthAt A C (upTo 32768 d s at)) (upTo 32768 d s at .next) (toZ w64 n) mid
+
+  pub by-leaf : (b : Bool) (v : ℤ) (after : ℕ) → b ≡ true → Simple s at d b → mag v < 2 ^ 31 → LeafSays s at C v after → mid ≡ after → n ≡ ofZ w64 (again v) → Operand
+  by-leaf b v after y k f o e q =
+      let l = leaf-read A C s at d (k .deep y) (k .near y) (k .stands y) in
+      rw q (way-value _ _ v mid (l .0 ∙ ap value (sym (o .answer))) (in32 v f) (e ∙ o .place ∙ sym (l .1)))
+
+  pub by-value : (r : ℤ) (after : ℕ) → mag r < 2 ^ 63 → OnTheWay (worthAt A C (upTo 32768 d s at)) (upTo 32768 d s at .next) r after → mid ≡ after → n ≡ ofZ w64 r → Operand
+  by-value r after f o e q = rw (q, e) (way-on _ _ r after (record { sfits = f }) o)
 
 -- where the position is the tree's end in any case
 at-end : (w : Worth) (after next : ℕ) → after ≡ next → after ≡ movedTo w after next
@@ -171,63 +199,58 @@ at-end (value v) after next e = e
 at-end (stop g) after next e = refl
 
 -- ---- `read`
-module _ (A : List ℕ) (C : List ℤ) (b : ℕ) (g : Got) (i : ℤ) (after : ℕ) (o : OnTheWay (worthAt A C g) (g .next) i after) (f : SFits w64 i) where
-  pub read-stop : ltZ (pos 2147483647) (again64 i) ≡ true → OnTheWay (readAt A C b g) (g .next) (again64 i) after
-  read-stop t =
-      let s = told-stop (worthAt A C g) (g .next) i after o f t in
-      way-stop (readAt A C b g) (g .next) (s .0) (again64 i) after (ap (indexed (arraysOf A) C b) (s .1 .0)) (s .1 .1)
+module _ (A : List ℕ) (C : List ℤ) (s : List ℕ) (d p b : ℕ) (i : ℤ) (after : ℕ) (o : OnTheWay (worthAt A C (upTo 32768 d s p)) (upTo 32768 d s p .next) i after) where
+  abbrev Reads : ℤ → Type 0
+  Reads r = OnTheWay (readAt A C b (upTo 32768 d s p)) (upTo 32768 d s p .next) r after
 
-  module _ (t : ltZ (pos 2147483647) (again64 i) ≡ false) (a : ℕ) (x : Entry) (e : x ≡ entryOf (arraysOf A) a (again (again64 i))) (ab : a ≡ b) where
-    index : readAt A C b g ≡ element (arraysOf A) C a (again (again64 i))
-    index = let s = told-value (worthAt A C g) (g .next) i after o f t in rw (s .0, s .1 .1 .1, ab)
+  pub read-stop : ltZ (pos 2147483647) i ≡ true → Reads i
+  read-stop t = let w = told-stop _ _ i after o t in way-stop _ _ (w .0) i after (ap (indexed (arraysOf A) C b) (w .1 .0)) (w .1 .1)
 
-    pub read-in : (c : ℕ) (v : ℤ) → x ≡ At c → SFits w32 v → v ≡ getD C c (pos 0) → OnTheWay (readAt A C b g) (g .next) (again64 (again v)) after
-    read-in c v q fv vv =
-        way-value (readAt A C b g) (g .next) v after (index ∙ given (arraysOf A) C a _ c (sym q ∙ e) ∙ ap value (sym vv)) fv
-        (told-value (worthAt A C g) (g .next) i after o f t .1 .1 .0)
+  module _ (t : ltZ (pos 2147483647) i ≡ false) (a : ℕ) (x : Entry) (e : x ≡ entryOf (arraysOf A) a (again i)) (ab : a ≡ b) where
+    index : readAt A C b (upTo 32768 d s p) ≡ element (arraysOf A) C a (again i)
+    index = let w = told-value _ _ i after o t in rw (w .0, toZ-ofZ (w .1 .0), ab)
 
-    pub read-outside : x ≡ Outside → OnTheWay (readAt A C b g) (g .next) (pos 4294967329) after
-    read-outside q = way-stop (readAt A C b g) (g .next) badIndex (pos 4294967329) after (index ∙ none (arraysOf A) C a _ (sym q ∙ e)) refl
+    pub read-in : (c : ℕ) (v : ℤ) → x ≡ At c → mag v < 2 ^ 31 → v ≡ getD C c (pos 0) → Reads (again64 (again v))
+    read-in c v q f vv =
+        way-value _ _ v after (index ∙ given (arraysOf A) C a _ c (sym q ∙ e) ∙ ap value (sym vv)) (in32 v f) (told-value _ _ i after o t .1 .1)
 
-pub ruleset reads = (read-stop, read-in, read-outside)
+    pub read-outside : x ≡ Outside → Reads (pos 4294967329)
+    read-outside q = way-stop _ _ badIndex (pos 4294967329) after (index ∙ none (arraysOf A) C a _ (sym q ∙ e)) refl
+
+pub ruleset reads = (read-in, read-outside)
 
 -- ---- `operated`
-pub packed-worth : (v : Value) → packed v ≡ packedWorth (worthOf v)
+packed-worth : (v : Value) → packed v ≡ packedWorth (worthOf v)
 packed-worth (is v) = refl
 packed-worth zeroDivisor = refl
 
-module _ (A : List ℕ) (C : List ℤ) (s : List ℕ) (d p b : ℕ) (l : ℤ) (mid : ℕ)
-    (lo : OnTheWay (worthAt A C (upTo 32768 d s p)) (upTo 32768 d s p .next) l mid) (fl : SFits w64 l) where
+module _ (A : List ℕ) (C : List ℤ) (s : List ℕ) (d p b : ℕ) (l : ℤ) (mid : ℕ) (lo : OnTheWay (worthAt A C (upTo 32768 d s p)) (upTo 32768 d s p .next) l mid) where
   abbrev Goes : ℤ → ℕ → Type 0
   Goes r after =
       OnTheWay (bothAt A C b (upTo 32768 d s p) (upTo 32768 d s (upTo 32768 d s p .next))) (upTo 32768 d s (upTo 32768 d s p .next) .next) r after
 
-  pub left-stop : (after : ℕ) → ltZ (pos 2147483647) (again64 l) ≡ true → Goes (again64 l) after
+  pub left-stop : (after : ℕ) → ltZ (pos 2147483647) l ≡ true → Goes l after
   left-stop after t =
-      let w = told-stop _ _ l mid lo fl t in
-      way-stop _ _ (w .0) (again64 l) after (ap (λ (x : Worth). both b x (worthAt A C (upTo 32768 d s (upTo 32768 d s p .next)))) (w .1 .0)) (w .1 .1)
+      let w = told-stop _ _ l mid lo t in
+      way-stop _ _ (w .0) l after (ap (λ (x : Worth). both b x (worthAt A C (upTo 32768 d s (upTo 32768 d s p .next)))) (w .1 .0)) (w .1 .1)
 
-  module _ (tl : ltZ (pos 2147483647) (again64 l) ≡ false) (r : ℤ) (after : ℕ)
-      (ro : OnTheWay (worthAt A C (upTo 32768 d s mid)) (upTo 32768 d s mid .next) r after) (fr : SFits w64 r) where
-    pub right-stop : ltZ (pos 2147483647) (again64 r) ≡ true → Goes (again64 r) after
+  module _ (tl : ltZ (pos 2147483647) l ≡ false) (r : ℤ) (after : ℕ) (ro : OnTheWay (worthAt A C (upTo 32768 d s mid)) (upTo 32768 d s mid .next) r after) where
+    pub right-stop : ltZ (pos 2147483647) r ≡ true → Goes r after
     right-stop t =
-        let x = told-value _ _ l mid lo fl tl in
-        let w = told-stop _ _ r after ro fr t in
-        rw (← x .1 .1 .0) (way-stop _ _ (w .0) (again64 r) after (ap₂ (both b) (x .0) (w .1 .0)) (w .1 .1))
+        let x = told-value _ _ l mid lo tl in
+        let w = told-stop _ _ r after ro t in
+        rw (← x .1 .1) (way-stop _ _ (w .0) r after (ap₂ (both b) (x .0) (w .1 .0)) (w .1 .1))
 
-    pub both-value : (v : ℤ) (o : ℕ) → ltZ (pos 2147483647) (again64 r) ≡ false → SFits w64 v → v ≡ packed (applyOp o (again (again64 l)) (again (again64 r)))
-        → o ≡ b → Goes (again64 v) after
+    pub both-value : (v : ℤ) (o : ℕ) → ltZ (pos 2147483647) r ≡ false → SFits w64 v → v ≡ packed (applyOp o (again l) (again r)) → o ≡ b → Goes (again64 v) after
     both-value v o t fv p oo =
-        let x = told-value _ _ l mid lo fl tl in
-        let y = told-value _ _ r after ro fr t in
-        rw (← x .1 .1 .0, x .0, y .0, ← oo)
+        let x = told-value _ _ l mid lo tl in
+        let y = told-value _ _ r after ro t in
+        rw (← x .1 .1, x .0, y .0, ← oo)
         (record {
-          answer = toZ-ofZ fv ∙ rw (x .1 .1 .1, y .1 .1 .1) at p ∙ packed-worth (applyOp o l r);
+          answer = toZ-ofZ fv ∙ rw (toZ-ofZ (x .1 .0), toZ-ofZ (y .1 .0)) at p ∙ packed-worth (applyOp o l r);
           range = worth-fits (applyOp o l r) (apply-fits o l r (x .1 .0) (y .1 .0));
-          place = at-end (worthOf (applyOp o l r)) after _ (y .1 .1 .0);
+          place = at-end (worthOf (applyOp o l r)) after _ (y .1 .1);
         })
-
-pub ruleset operateds = (left-stop, right-stop, both-value)
 
 -- ---- `value`
 module _ (A : List ℕ) (C : List ℤ) (s : List ℕ) (at d : ℕ) where
@@ -263,18 +286,19 @@ module _ (A : List ℕ) (C : List ℤ) (s : List ℕ) (at d : ℕ) where
 pub ruleset values = (value-none, value-out, value-leaf, value-read, value-bin)
 
 -- ---- `amount`: a refusal puts the position back
-module _ (A : List ℕ) (C : List ℤ) (g : Got) (r : ℤ) (after : ℕ) (o : OnTheWay (worthAt A C g) (g .next) r after) (f : SFits w64 r) where
-  pub says-stop : (at : ℕ) → ltZ (pos 2147483647) (again64 r) ≡ true → WorthSays A C at g (again64 r) at
-  says-stop at t =
-      let s = told-stop (worthAt A C g) (g .next) r after o f t in
-      record { answer = toZ-ofZ f ∙ o .answer; range = o .range; place = sym (ap (λ (w : Worth). movedTo w at (g .next)) (s .1 .0)) }
+module _ (A : List ℕ) (C : List ℤ) (s : List ℕ) (at : ℕ) (r : ℤ) (after : ℕ) (o : OnTheWay (worthAt A C (upTo 32768 16 s at)) (upTo 32768 16 s at .next) r after) where
+  abbrev Says : ℕ → Type 0
+  Says p = WorthSays A C at (upTo 32768 16 s at) r p
 
-  pub says-value : (at : ℕ) → ltZ (pos 2147483647) (again64 r) ≡ false → WorthSays A C at g (again64 r) after
-  says-value at t =
-      let s = told-value (worthAt A C g) (g .next) r after o f t in
-      record { answer = toZ-ofZ f ∙ o .answer; range = o .range; place = s .1 .1 .0 ∙ sym (ap (λ (w : Worth). movedTo w at (g .next)) (s .0)) }
+  pub says-stop : ltZ (pos 2147483647) r ≡ true → Says at
+  says-stop t =
+      let w = told-stop _ _ r after o t in
+      record { answer = o .answer; range = o .range; place = sym (ap (λ (w : Worth). movedTo w at (upTo 32768 16 s at .next)) (w .1 .0)) }
 
-pub ruleset amounts = (says-stop, says-value)
+  pub says-value : ltZ (pos 2147483647) r ≡ false → Says after
+  says-value t =
+      let w = told-value _ _ r after o t in
+      record { answer = o .answer; range = o .range; place = w .1 .1 ∙ sym (ap (λ (w : Worth). movedTo w at (upTo 32768 16 s at .next)) (w .0)) }
 
 -- ---- what the packed number means
 pub unpacked-packed : (w : Worth) → InCell w → unpacked (packedWorth w) ≡ w

@@ -7,10 +7,11 @@ use mathlib.Core.Bool.{Bool, true, false, cond}
 use lib.Dec.{eqb, ltb}
 use lib.IntN.{ℤ, pos, negsuc}
 use lib.ListN.{getD, take, drop}
+use lib.Signed.{ltZ}
 use Rattle.codes.specs.Codes.{word16}
 use Rattle.codes.specs.Numbers.{cellAt}
-use Rattle.values.specs.Values.{isTrue}
-use Rattle.expr.specs.Tree.{Arrays, Fault, byZero, badIndex, faultNumber, Worth, value, stop, eval}
+use Rattle.values.specs.Values.{isTrue, eqZ}
+use Rattle.expr.specs.Tree.{Arrays, byZero, badIndex, faultNumber, Worth, value, stop, eval}
 use Rattle.expr.specs.Agreement.{both, indexed}
 use Rattle.expr.specs.Bytes.{Got}
 use Rattle.expr.specs.Answers.{InCell}
@@ -85,12 +86,23 @@ pub record LeafSays (s : List ℕ) (at : ℕ) (cells : List ℤ) (r : ℤ) (afte
   pub answer : r ≡ leafOf s at cells
   pub place : after ≡ leafEnd s at
 
--- ---- `flat`: where the answer is yes, an operator on two constants or scalars stands at `at`
-abbrev pub FlatAt : List ℕ → ℕ → Type 0
-FlatAt s at = (at + 7 < 32768) × ((getD s at 0 ≡ 3) × ((getD s (at + 2) 0 < 2) × (getD s (leafEnd s (at + 2)) 0 < 2)))
+-- ---- `simple`: where the answer is yes, a constant or scalar stands at `at` and is read at that depth
+pub record Simple (s : List ℕ) (at depth : ℕ) (r : Bool) : Type 0 where
+  pub deep : r ≡ true → depth ≡ 0 → ⊥
+  pub near : r ≡ true → at < 32768
+  pub stands : r ≡ true → getD s at 0 < 2
 
-pub record Flat (s : List ℕ) (at : ℕ) (r : Bool) : Type 0 where
-  pub stands : r ≡ true → FlatAt s at
+-- ---- `compares`: where the answer is yes, a comparison stands at `at` whose left side is a constant or scalar
+pub record Compares (s : List ℕ) (at : ℕ) (r : Bool) : Type 0 where
+  pub near : r ≡ true → at + 7 < 32768
+  pub stands : r ≡ true → getD s at 0 ≡ 3
+  pub operator : r ≡ true → (9 < getD s (at + 1) 0) × (getD s (at + 1) 0 < 16)
+  pub left : r ≡ true → getD s (at + 2) 0 < 2
+
+-- ---- `holds`: the comparisons that hold, 2^10 to 2^15 for `< > = != <= >=`: `<`, `!=` and `<=` where x is less; `=`, `<=` and `>=`
+-- where the two are equal; else `>`, `!=` and `>=`
+abbrev pub comparisons : ℤ → ℤ → ℕ
+comparisons x y = cond (ltZ x y) (2 ^ 10 + 2 ^ 13 + 2 ^ 14) (cond (eqZ x y) (2 ^ 12 + 2 ^ 14 + 2 ^ 15) (2 ^ 11 + 2 ^ 13 + 2 ^ 15))
 
 -- ---- `verdict`: some worth's number, and what it says as a condition
 pub record Packed (w : ℤ) : Type 0 where

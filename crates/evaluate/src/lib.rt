@@ -1,15 +1,15 @@
 // What an expression is worth in a store: document 01, 'Values'. The bytes are a program's, checked or not: nothing is read from 32,768 on,
 // nor more than 16 deep.
-use codes::byte;
-use codes::long;
-use codes::short;
 ghost use mathlib.Core.Path.{_≡_};
 ghost use Prim.Native.Nat.{_+_, _<_};
 ghost use lib.IntN.{pos};
 ghost use lib.ListN.{getD};
 ghost use Rattle.codes.specs.Codes.{word16};
+ghost use Rattle.codes.specs.Numbers.{cellAt};
+ghost use Rattle.values.specs.Values.{applyOp};
+ghost use Rattle.expr.specs.Tree.{worthOf};
 ghost use Rattle.expr.specs.Bytes.{upTo};
-ghost use Rattle.evaluate.specs.Answers.{arraysOf, entryOf, LeafSays, worthAt, readAt, bothAt, OnTheWay, WorthSays, Packed, Verdict, truthOf, Flat};
+ghost use Rattle.evaluate.specs.Answers.{arraysOf, entryOf, LeafSays, worthAt, readAt, bothAt, OnTheWay, WorthSays, Simple, Packed, Verdict, truthOf, comparisons, Compares};
 
 // Where the bytes of a program end at the latest.
 const ROOM: usize = 32768;
@@ -20,6 +20,9 @@ const DEPTH: usize = 16;
 // The largest value; what is above it is no value but a refusal, 2^32 and the document's number.
 const MOST: i64 = 2147483647;
 
+const REFUSAL: i64 = 4294967296;
+
+// REFUSAL and 33.
 const BAD_INDEX: i64 = 4294967329;
 
 // The cell i, 0 past the end.
@@ -56,23 +59,68 @@ pub fn entry_of(arrays: &[u16; 32], a: usize, index: i32) -> Entry
     Entry::Outside
 }
 
+// A byte as a number, with the bound that sums of it need.
+fn tiny(b: u8) -> usize
+    ensures { λ r. ⌜ (r ≡ b) × (r < 256) ⌝ }
+{
+    b as usize
+}
+
+// The byte at i. An expression begins before 32,768 and the array is longer, so that no read here asks where it ends.
+fn one(bytes: &[u8; 32784], i: usize) -> usize
+    requires { ⌜ i < 32784 ⌝ }
+    ensures { λ r. ⌜ (r ≡ getD (now (bytes .entry)) i 0) × (r < 256) ⌝ }
+{
+    tiny(bytes[i])
+}
+
+// The u16 at i.
+fn two(bytes: &[u8; 32784], i: usize) -> usize
+    requires { ⌜ i + 1 < 32784 ⌝ }
+    ensures { λ r. ⌜ (r ≡ word16 (now (bytes .entry)) i) × (r < 65536) ⌝ }
+{
+    tiny(bytes[i]) + 256 * tiny(bytes[i + 1])
+}
+
+// The i32 at i.
+fn four(bytes: &[u8; 32784], i: usize) -> i32
+    requires { ⌜ i + 3 < 32784 ⌝ }
+    ensures { λ r. ⌜ r ≡ cellAt (now (bytes .entry)) i ⌝ }
+{
+    values::from_bits((two(bytes, i) + 65536 * two(bytes, i + 2)) as u32)
+}
+
 // What the constant or scalar at `*at` holds; `*at` is moved behind it.
 fn leaf(bytes: &[u8; 32784], at: &mut usize, cells: &[i32; 2048]) -> i32
     requires { ⌜ now at < 32768 ⌝ }
     ensures { λ r. ⌜ LeafSays (now (bytes .entry)) (now (at .entry)) (now (cells .entry)) r (now (at .exit)) ⌝ }
 {
     let p = *at;
-    if byte(bytes, p) == 0 {
+    if one(bytes, p) == 0 {
         *at = p + 5;
-        return long(bytes, p + 1);
+        return four(bytes, p + 1);
     }
     *at = p + 3;
-    cell(cells, short(bytes, p + 1))
+    cell(cells, two(bytes, p + 1))
+}
+
+// Whether a constant or scalar stands at `at`, where so much depth is left.
+fn simple(bytes: &[u8; 32784], at: usize, depth: usize) -> bool
+    ensures { λ r. ⌜ Simple (now (bytes .entry)) at depth r ⌝ }
+{
+    if depth == 0 {
+        return false;
+    }
+    if ROOM <= at {
+        return false;
+    }
+    one(bytes, at) < 2
 }
 
 // What the expression at `*at`, at most so deep, is worth; where that is a value, `*at` is moved behind it.
 // The three that follow call each other: `value` gives one level less to `read` and `operated`, which evaluate at what they are given, so
 // that what falls at every call is twice the depth for `value` and one more than that for the two.
+// Where an operand is a constant or scalar, as nearly every one is, they ask `leaf` and need no call.
 fn value(
     bytes: &[u8; 32784],
     at: &mut usize,
@@ -88,7 +136,7 @@ fn value(
     if ROOM <= *at {
         return 0;
     }
-    let tag = byte(bytes, *at);
+    let tag = one(bytes, *at);
     if tag < 2 {
         return leaf(bytes, at, cells) as i64;
     }
@@ -109,9 +157,13 @@ fn read(
     requires { ⌜ now at < 32768 ⌝ }
     ensures { λ r. ⌜ OnTheWay (readAt (now (arrays .entry)) (now (cells .entry)) (word16 (now (bytes .entry)) (now (at .entry) + 1)) (upTo 32768 depth (now (bytes .entry)) (now (at .entry) + 3))) (upTo 32768 depth (now (bytes .entry)) (now (at .entry) + 3) .next) r (now (at .exit)) ⌝ }
 {
-    let a = short(bytes, *at + 1);
+    let a = two(bytes, *at + 1);
     *at = *at + 3;
-    let i = value(bytes, at, cells, arrays, depth);
+    let i = if simple(bytes, *at, depth) {
+        leaf(bytes, at, cells) as i64
+    } else {
+        value(bytes, at, cells, arrays, depth)
+    };
     if i > MOST {
         return i;
     }
@@ -132,13 +184,21 @@ fn operated(
     requires { ⌜ now at < 32768 ⌝ }
     ensures { λ r. ⌜ OnTheWay (bothAt (now (arrays .entry)) (now (cells .entry)) (getD (now (bytes .entry)) (now (at .entry) + 1) 0) (upTo 32768 depth (now (bytes .entry)) (now (at .entry) + 2)) (upTo 32768 depth (now (bytes .entry)) (upTo 32768 depth (now (bytes .entry)) (now (at .entry) + 2) .next))) (upTo 32768 depth (now (bytes .entry)) (upTo 32768 depth (now (bytes .entry)) (now (at .entry) + 2) .next) .next) r (now (at .exit)) ⌝ }
 {
-    let o = byte(bytes, *at + 1) as u8;
+    let o = one(bytes, *at + 1) as u8;
     *at = *at + 2;
-    let l = value(bytes, at, cells, arrays, depth);
+    let l = if simple(bytes, *at, depth) {
+        leaf(bytes, at, cells) as i64
+    } else {
+        value(bytes, at, cells, arrays, depth)
+    };
     if l > MOST {
         return l;
     }
-    let r = value(bytes, at, cells, arrays, depth);
+    let r = if simple(bytes, *at, depth) {
+        leaf(bytes, at, cells) as i64
+    } else {
+        value(bytes, at, cells, arrays, depth)
+    };
     if r > MOST {
         return r;
     }
@@ -151,7 +211,11 @@ pub fn amount(bytes: &[u8; 32784], at: &mut usize, cells: &[i32; 2048], arrays: 
     ensures { λ r. ⌜ WorthSays (now (arrays .entry)) (now (cells .entry)) (now (at .entry)) (upTo 32768 16 (now (bytes .entry)) (now (at .entry))) r (now (at .exit)) ⌝ }
 {
     let start = *at;
-    let r = value(bytes, at, cells, arrays, DEPTH);
+    let r = if simple(bytes, *at, DEPTH) {
+        leaf(bytes, at, cells) as i64
+    } else {
+        value(bytes, at, cells, arrays, DEPTH)
+    };
     if r > MOST {
         *at = start;
     }
@@ -164,42 +228,61 @@ fn verdict(w: i64) -> u8
     ensures { λ r. ⌜ Verdict w r ⌝ }
 {
     if w > MOST {
-        return (w - 4294967296) as u8;
+        return (w - REFUSAL) as u8;
     }
     (w != 0) as u8
 }
 
-// Whether an operator on two constants or scalars stands at `at`.
-fn flat(bytes: &[u8; 32784], at: usize) -> bool
-    ensures { λ r. ⌜ Flat (now (bytes .entry)) at r ⌝ }
+// Which comparisons hold of l and r: the bits 10 to 15 are the operators `< > = != <= >=`.
+fn holds(l: i32, r: i32) -> usize
+    ensures { λ m. ⌜ m ≡ comparisons l r ⌝ }
+{
+    if l < r {
+        return 25600;
+    }
+    if l == r { 53248 } else { 43008 }
+}
+
+// Whether the comparison o holds: its bit, so that no jump goes by the operator.
+fn compared(o: usize, l: i32, r: i32) -> u8
+    requires { ⌜ (9 < o) × (o < 16) ⌝ }
+    ensures { λ t. ⌜ t ≡ truthOf (worthOf (applyOp o l r)) ⌝ }
+{
+    ((holds(l, r) >> o) % 2) as u8
+}
+
+// Whether a comparison stands at `at` whose left side is a constant or scalar.
+fn compares(bytes: &[u8; 32784], at: usize) -> bool
+    ensures { λ r. ⌜ Compares (now (bytes .entry)) at r ⌝ }
 {
     if ROOM - 8 < at {
         return false;
     }
-    if byte(bytes, at) != 3 {
+    if one(bytes, at) != 3 {
         return false;
     }
-    let tag = byte(bytes, at + 2);
-    if tag == 0 {
-        return byte(bytes, at + 7) < 2;
+    let o = one(bytes, at + 1);
+    if o < 10 {
+        return false;
     }
-    if tag == 1 {
-        return byte(bytes, at + 5) < 2;
+    if 15 < o {
+        return false;
     }
-    false
+    one(bytes, at + 2) < 2
 }
 
 // What the condition at `at` says: 0 false, 1 true, else the document's number of what stops it.
-// Most compare two constants or scalars, which needs no call.
+// The first lines are for what most conditions are, a comparison of two constants or scalars: it needs no call.
 pub fn truth(bytes: &[u8; 32784], at: usize, cells: &[i32; 2048], arrays: &[u16; 32]) -> u8
     ensures { λ r. ⌜ r ≡ truthOf (worthAt (now (arrays .entry)) (now (cells .entry)) (upTo 32768 16 (now (bytes .entry)) at)) ⌝ }
 {
-    if flat(bytes, at) {
-        let o = byte(bytes, at + 1) as u8;
+    if compares(bytes, at) {
         let mut p = at + 2;
         let l = leaf(bytes, &mut p, cells);
-        let r = leaf(bytes, &mut p, cells);
-        return verdict(values::apply(o, l, r));
+        if one(bytes, p) < 2 {
+            let r = leaf(bytes, &mut p, cells);
+            return compared(one(bytes, at + 1), l, r);
+        }
     }
     let mut p = at;
     verdict(value(bytes, &mut p, cells, arrays, DEPTH))
