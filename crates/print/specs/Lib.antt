@@ -1,2 +1,3 @@
 -- The definitions of `print`.
 pub mod Lines
+pub mod Rows
