@@ -117,6 +117,14 @@ whole b c r ws h p =
     let e : 0 + length (flatten ws) ≡ r = omega (arith, p .0, w .0) in
     record { size = omega arith; bytes = p .1 ∙ w .1 ∙ sets-eq (flatten ws) b 0 (omega arith) ∙ ap (λ (k : ℕ). flatten ws ++ drop k b) e }
 
+pub text-one : {b c c′ : List ℕ} {ws : List (List ℕ)} {n n′ : ℕ} → Text b ws c n → Text b ws c′ n′ → (n ≡ n′) × (c ≡ c′)
+text-one {b} {ws = ws} h k =
+    let e = h .size ∙ sym (k .size) in (e, h .bytes ∙ (ap (λ (n : ℕ). flatten ws ++ drop n b) e ∙ sym (k .bytes)))
+
+-- the text lies within its buffer
+pub within : {b c : List ℕ} {ws : List (List ℕ)} {n : ℕ} → Text b ws c n → n ≤ length c
+within {b} {ws = ws} {n} h = omega (arith, h .size, ap length (h .bytes), length-append (flatten ws) (drop n b))
+
 -- ---- how long the lines are: a number has at most 20 digits
 abbrev pub size : List (List ℕ) → ℕ
 size ws = length (flatten ws)

@@ -12,7 +12,7 @@ use Rattle.moves.specs.Step.{start}
 use Rattle.moves.specs.Runs.{Ran, stopNumber, run}
 use Rattle.machine.specs.declared.Told.{Told}
 use Rattle.machine.specs.Answers.{Gives}
-use Rattle.print.specs.Lines.{putAll, afterAll, refusedLine, stepsLine, atLine, cellLines}
+use Rattle.print.specs.Lines.{Text, refusedLine, stepsLine, atLine, cellLines}
 
 -- So many zeros, under a name that stays shut.
 unfoldable pub noughts : ℕ → List ℤ
@@ -30,12 +30,11 @@ pub data Prints (f : List ℕ) : List (List ℕ) → Type 0 where
   refused : {n k : ℕ} → Says f (fault n k) → Prints f (refusedLine n k)
   ran : {t : Tree} → Accepts f t → Prints f (ranLines (run t 1000000 (start t down) (noughts (cells t))))
 
--- The text that it prints: the lines, from the start of the buffer b, which is c afterwards; r is the position after them.
+-- The lines stand whole at the start of the buffer b, which is c afterwards; r is their length.
 pub record Reports (f b c : List ℕ) (r : ℕ) : Type 0 where
   pub lines : List (List ℕ)
   pub prints : Prints f lines
-  pub position : r ≡ afterAll b 0 lines
-  pub text : c ≡ putAll b 0 lines
+  pub text : Text b lines c r
 
 -- ---- what the inner functions go by
 
