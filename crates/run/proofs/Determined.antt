@@ -9,9 +9,10 @@ use Rattle.moves.specs.Places.{down}
 use Rattle.moves.specs.Step.{start}
 use Rattle.moves.specs.Runs.{run as running}
 use Rattle.machine.proofs.OneAnswer.{not-both, faults-one}
+use Rattle.print.specs.Zeros.{noughts}
 use Rattle.print.specs.Lines.{refusedLine}
 use Rattle.print.proofs.Rows.{text-one}
-use Rattle.run.specs.Report.{noughts, ranLines, Prints, refused, ran, Reports}
+use Rattle.run.specs.Report.{ranLines, Prints, refused, ran, Reports}
 
 module _ (f : List ℕ) (B : AllBytes f) where
   prints-one : {l m : List (List ℕ)} → Prints f l → Prints f m → l ≡ m

@@ -1,13 +1,11 @@
 -- An accepted file's run, as the machine answers it, is reported in the document's lines.
 --     few       so many cells have room
---     zeros     the first of many zeros are zeros
 --     reports   the machine's answers, printed, are what `run` prints
-use Prim.Native.Nat.{ℕ, zero, suc, _+_, _*_, _≤_}
+use Prim.Native.Nat.{ℕ, _+_, _*_, _≤_}
 use mathlib.Core.Path.{_≡_, refl, sym, ap, _∙_, subst}
-use mathlib.Core.List.{List, _∷_, _++_}
+use mathlib.Core.List.{List, _++_}
 use native.Mathlib.Omega.{arith}
-use lib.IntN.{pos}
-use lib.ListN.{length, take, replicate}
+use lib.ListN.{length}
 use Rattle.codes.specs.Codes.{AllBytes}
 use Rattle.place.specs.declared.Place.{Place as Held}
 use Rattle.place.specs.Slots.{held}
@@ -29,19 +27,12 @@ use Rattle.machine.specs.Answers.{Gives, done, RunSays, ran, StartSays, started
 use Rattle.machine.specs.Whole.{toldBy}
 use Rattle.machine.proofs.Giving.{by-gives}
 use Rattle.machine.proofs.OneAnswer.{run-one, start-one}
+use Rattle.print.specs.Zeros.{noughts}
+use Rattle.print.proofs.Zeros.{length-noughts}
 use Rattle.print.specs.Lines.{refusedLine, stepsLine, atLine, cellLines}
 use Rattle.print.proofs.Rows.{Row, whole, within, size, size-append, refused-size, steps-size, at-size, cells-size}
-use Rattle.run.specs.Report.{noughts, length-noughts, reportLines, ranLines, Prints, Reports, Counted, Numbered}
+use Rattle.run.specs.Report.{reportLines, ranLines, Prints, Reports, Counted, Numbered}
 use Rattle.run.specs.Report as report
-
-first-zeros : (n m : ℕ) → n ≤ m → take n (replicate m (pos 0)) ≡ replicate n (pos 0)
-first-zeros zero m h = refl
-first-zeros (suc n) zero h = absurd (omega arith)
-first-zeros (suc n) (suc m) h = ap (_∷_ (pos 0)) (first-zeros n m (omega arith))
-
-pub zeros : (n m : ℕ) → n ≤ m → take n (noughts m) ≡ noughts n
-unfolding noughts
-zeros n m h = first-zeros n m h
 
 -- what is printed of a run's answer
 abbrev said : ℕ → ℕ → Held → Store → List (List ℕ)

@@ -1,12 +1,13 @@
 // The program `run`: a program file on standard input, from its start down on zeros, at most 1,000,000 steps.
 ghost use mathlib.Core.Path.{_≡_};
 ghost use Rattle.print.specs.Rows.{putAll, afterAll};
-ghost use Rattle.run.specs.Report.{noughts, reportLines, Reports, Counted, Zeroed, Numbered};
+ghost use Rattle.print.specs.Zeros.{noughts};
+ghost use Rattle.run.specs.Report.{reportLines, Reports, Counted, Zeroed, Numbered};
 use files::Got;
 use libc::STDIN_FILENO;
 use machine::Told;
-use print::TEXT;
 use place::Place;
+use print::TEXT;
 use program::Checked;
 
 // One byte more than is allowed is enough to know that a file is too long.

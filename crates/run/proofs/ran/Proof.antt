@@ -6,8 +6,8 @@ use lib.ListN.{length, take}
 use lib.Seq.{length-take-le}
 use denote.Ref.{now}
 use borrow.Author.Needs.{needs}
-use Rattle.run.specs.Report.{length-noughts}
-use Rattle.run.proofs.Running.{few, zeros}
+use Rattle.print.proofs.Zeros.{length-noughts, zeros}
+use Rattle.run.proofs.Running.{few}
 use Rattle.run.proofs.ran.Statement.{statement}
 use Rattle.run.proofs.ran.Tie as tie
 
