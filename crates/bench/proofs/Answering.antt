@@ -43,8 +43,8 @@ use Rattle.print.proofs.Rows.{Row, whole, within, size, size-append, refused-si
 use Rattle.bench.specs.declared.answer.Answer.{Answer}
 use Rattle.bench.specs.declared.command.Deed.{Deed}
 use Rattle.bench.specs.declared.command.Deed.the-variants.{Move, Set}
-use Rattle.bench.specs.Room.{Room}
-use Rattle.bench.specs.Answers.{Checks, Tells, Keeps, Starts, Does, Answers, Lent, Numbered, Counted, CellsOf, Stands, Sound, Saves, going, placeLine, movedLines, shownLines}
+use Rattle.bench.specs.Answers.{Checks, Tells, Keeps, Starts, Does, Answers, Lent, going, placeLine, movedLines, shownLines}
+use Rattle.bench.specs.Inner.{Numbered, Counted, CellsOf, Stands, Sound, Saves, Room}
 use Rattle.bench.specs.Answers as answers
 
 -- ---- the lines fit

@@ -1,7 +1,7 @@
 // Files in, answers out: both files are read before either is judged, and a session is written before its answer is printed.
 ghost use lib.ListN.{length};
 ghost use Rattle.io.specs.Counts.{Counts};
-ghost use Rattle.bench.specs.Room.{Room};
+ghost use Rattle.bench.specs.Inner.{Room};
 use crate::answer::Answer;
 use crate::answer::SESSION;
 use crate::answer::answered;
