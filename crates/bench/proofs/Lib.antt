@@ -1,4 +1,3 @@
 -- The laws of `bench`.
-pub mod Rooms
 pub mod Numbers
 pub mod Answering

@@ -1,4 +1,4 @@
 -- The definitions of `bench`.
-pub mod Room
 pub mod Numbers
 pub mod Answers
+pub mod Inner

@@ -1,17 +1,24 @@
 // What each command answers: the bytes of the new session and the text to print. No file is touched here.
+ghost use mathlib.Core.Path.{_≡_};
 ghost use Prim.Native.Nat.{_≤_};
 ghost use lib.ListN.{length};
-ghost use Rattle.io.specs.Counts.{Counts};
-ghost use Rattle.machine.specs.Answers.{direction};
-ghost use Rattle.print.specs.Lines.{refusedLine};
-ghost use Rattle.bench.specs.Room.{Room};
-ghost use Rattle.bench.specs.Answers.{Checks, Says, Keeps, Starts, Does, Answers, Numbered, Moves, shownLines};
-ghost use Rattle.bench.specs.declared.command.Deed.the-variants.{Set};
+ghost use Rattle.machine.specs.Answers.{direction, RunSays};
+ghost use Rattle.print.specs.Zeros.{noughts};
+ghost use Rattle.print.specs.Lines.{Text, refusedLine};
+ghost use Rattle.bench.specs.Answers.{Checks, Starts, Does, Answers, Lent, going, movedLines, shownLines};
+ghost use Rattle.bench.specs.Inner.{Telling, Setting, Numbered, Counted, CellsOf, Stands, Sound, Saves, Room};
+ghost use Rattle.bench.specs.declared.command.Deed.the-variants.{Move, Set};
 use crate::command::Deed;
 use machine::Ran;
 use machine::Told;
 use place::Place;
+use print::TEXT;
 use program::Checked;
+
+// One byte more than the longest session that could be sound.
+pub(crate) const SESSION: usize = 69961;
+
+const CELLS: usize = 2048;
 
 // How many bytes of the buffer are the new session, 0 for none; how many of the text are said; and whether the words were wrong after all.
 pub struct Answer {
@@ -20,9 +27,14 @@ pub struct Answer {
     pub wrong: bool,
 }
 
-fn refused(number: u8, label: usize, buffer: &[u8], text: &mut [u8]) -> Answer
-    ensures { λ r. ⌜ Room r (length (now (buffer .entry))) (length (now (text .entry))) ⌝ }
-    ensures { λ r. ⌜ Says (now (buffer .entry)) (now (text .entry)) (refusedLine number label) r (now (buffer .entry)) (now (text .exit)) ⌝ }
+fn zeros() -> [i32; CELLS]
+    ensures { λ r. ⌜ r ≡ noughts 2048 ⌝ }
+{
+    [0; CELLS]
+}
+
+fn refused(number: u8, label: usize, text: &mut [u8; TEXT]) -> Answer
+    ensures { λ r. ⌜ Telling (now (text .entry)) (refusedLine number label) r (now (text .exit)) ⌝ }
 {
     Answer {
         written: 0,
@@ -32,8 +44,7 @@ fn refused(number: u8, label: usize, buffer: &[u8], text: &mut [u8]) -> Answer
 }
 
 // `check`
-pub(crate) fn checked(file: &[u8], text: &mut [u8]) -> usize
-    ensures { λ r. ⌜ Counts r (now (text .exit)) ⌝ }
+pub(crate) fn checked(file: &[u8], text: &mut [u8; TEXT]) -> usize
     ensures { λ r. ⌜ Checks (now (file .entry)) (now (text .entry)) (now (text .exit)) r ⌝ }
 {
     match program::check(file) {
@@ -44,61 +55,56 @@ pub(crate) fn checked(file: &[u8], text: &mut [u8]) -> usize
     }
 }
 
-// How many cells the file's programs have, 0 for one that is refused.
-pub(crate) fn cells_of(file: &[u8]) -> usize
-    ensures { λ r. ⌜ r ≤ 2048 ⌝ }
-{
-    match program::check(file) {
-        Checked::Refused(_, _) => 0,
-        Checked::Accepted(_, _, cells) => cells,
-    }
-}
-
-// A session that is saved is answered with the text that was said before it; one that is not, with the refusal.
+// Saves a session that cannot be refused, when so many bytes of the text are said.
 fn saved(
     file: &[u8],
     place: Place,
     store: &[i32],
     said: usize,
-    buffer: &mut [u8],
-    text: &mut [u8],
+    buffer: &mut [u8; SESSION],
 ) -> Answer
-    requires { ⌜ said ≤ length (now text) ⌝ }
-    ensures { λ r. ⌜ Room r (length (now (buffer .entry))) (length (now (text .entry))) ⌝ }
-    ensures { λ r. ⌜ Keeps (now (file .entry)) place (now (store .entry)) (now (buffer .entry)) (now (text .entry)) said r (now (buffer .exit)) (now (text .exit)) ⌝ }
+    requires { ⌜ Stands (now file) place (now store) ⌝ }
+    ensures { λ r. ⌜ Saves (now (file .entry)) place (now (store .entry)) (now (buffer .entry)) said r (now (buffer .exit)) ⌝ }
 {
     let s = saved::save(file, place, store, buffer);
-    let told = s.told;
-    match told {
-        Told::Refused(number, label) => refused(number, label, buffer, text),
-        Told::Done => Answer {
-            written: s.written,
-            said,
-            wrong: false,
-        },
+    Answer {
+        written: s.written,
+        said,
+        wrong: false,
     }
 }
 
-// `start`, on a store of zeros
+// The start of a program that is accepted, on zeros.
+fn begun(
+    file: &[u8],
+    up: bool,
+    cells: usize,
+    buffer: &mut [u8; SESSION],
+    text: &mut [u8; TEXT],
+) -> Answer
+    requires { ⌜ Counted (now file) cells ⌝ }
+    ensures { λ r. ⌜ Starts (now (file .entry)) (direction up) (now (buffer .entry)) (now (text .entry)) r (now (buffer .exit)) (now (text .exit)) ⌝ }
+{
+    let store = zeros();
+    let r = machine::start(file, up);
+    let place = r.place;
+    let n = print::put_at(text, 0, place.a, place.b, place.direction);
+    saved(file, place, &store[..cells], n, buffer)
+}
+
+// `start`
 pub(crate) fn started(
     file: &[u8],
     up: bool,
-    store: &[i32],
-    buffer: &mut [u8],
-    text: &mut [u8],
+    buffer: &mut [u8; SESSION],
+    text: &mut [u8; TEXT],
 ) -> Answer
-    ensures { λ r. ⌜ Room r (length (now (buffer .entry))) (length (now (text .entry))) ⌝ }
-    ensures { λ r. ⌜ Starts (now (file .entry)) (direction up) (now (store .entry)) (now (buffer .entry)) (now (text .entry)) r (now (buffer .exit)) (now (text .exit)) ⌝ }
+    ensures { λ r. ⌜ Starts (now (file .entry)) (direction up) (now (buffer .entry)) (now (text .entry)) r (now (buffer .exit)) (now (text .exit)) ⌝ }
+    ensures { λ r. ⌜ Room r (length (now (buffer .exit))) (length (now (text .exit))) ⌝ }
 {
-    let r = machine::start(file, up);
-    let told = r.told;
-    let place = r.place;
-    match told {
-        Told::Refused(number, label) => refused(number, label, buffer, text),
-        Told::Done => {
-            let n = print::put_at(text, 0, place.a, place.b, place.direction);
-            saved(file, place, store, n, buffer, text)
-        }
+    match program::check(file) {
+        Checked::Refused(number, label) => refused(number, label, text),
+        Checked::Accepted(_, _, cells) => begun(file, up, cells, buffer, text),
     }
 }
 
@@ -111,30 +117,53 @@ fn reason(told: Told) -> u8
     }
 }
 
-// `step` and `back`, after the moves
-fn moved(file: &[u8], went: Ran, store: &[i32], buffer: &mut [u8], text: &mut [u8]) -> Answer
-    ensures { λ r. ⌜ Room r (length (now (buffer .entry))) (length (now (text .entry))) ⌝ }
-    ensures { λ r. ⌜ Moves (now (file .entry)) (went .told) (went .steps) (went .place) (now (store .entry)) (now (buffer .entry)) (now (text .entry)) r (now (buffer .exit)) (now (text .exit)) ⌝ }
+fn went(back: bool, n: u32, file: &[u8], place: Place, store: &mut [i32]) -> Ran
+    ensures { λ r. ⌜ RunSays (going back) (now (file .entry)) place (now (store .entry)) n (r .told) (r .steps) (r .place) (now (store .exit)) ⌝ }
 {
+    if back {
+        return machine::run_back(file, place, store, n);
+    }
+    machine::run(file, place, store, n)
+}
+
+fn put_moved(text: &mut [u8; TEXT], steps: u32, reason: u8, place: Place) -> usize
+    ensures { λ r. ⌜ Text (now (text .entry)) (movedLines steps reason place) (now (text .exit)) r ⌝ }
+{
+    let i = print::put_steps(text, 0, steps, reason);
+    print::put_at(text, i, place.a, place.b, place.direction)
+}
+
+// `step` and `back`
+fn moved(
+    back: bool,
+    n: u32,
+    file: &[u8],
+    place: Place,
+    store: &mut [i32],
+    buffer: &mut [u8; SESSION],
+    text: &mut [u8; TEXT],
+) -> Answer
+    requires { ⌜ Sound (now file) place (now store) ⌝ }
+    ensures { λ r. ⌜ Does (now (file .entry)) place (now (store .entry)) (now (buffer .entry)) (now (text .entry)) r (now (buffer .exit)) (now (text .exit)) (Move back n) ⌝ }
+{
+    let went = went(back, n, file, place, store);
     let told = went.told;
-    let place = went.place;
-    let i = print::put_steps(text, 0, went.steps, reason(told));
-    let n = print::put_at(text, i, place.a, place.b, place.direction);
-    saved(file, place, store, n, buffer, text)
+    let last = went.place;
+    let said = put_moved(text, went.steps, reason(told), last);
+    saved(file, last, store, said, buffer)
 }
 
 // `set`: a cell that is not there is told last
 fn set(
-    file: &[u8],
-    place: Place,
     cell: u32,
     value: i32,
+    file: &[u8],
+    place: Place,
     store: &mut [i32],
-    buffer: &mut [u8],
-    text: &mut [u8],
+    buffer: &mut [u8; SESSION],
 ) -> Answer
-    ensures { λ r. ⌜ Room r (length (now (buffer .entry))) (length (now (text .entry))) ⌝ }
-    ensures { λ r. ⌜ Does (now (file .entry)) place (now (store .entry)) (now (buffer .entry)) (now (text .entry)) r (now (buffer .exit)) (now (text .exit)) (Set cell value) ⌝ }
+    requires { ⌜ Sound (now file) place (now store) ⌝ }
+    ensures { λ r. ⌜ Setting (now (file .entry)) place (now (store .entry)) (now (buffer .entry)) r (now (buffer .exit)) (Set cell value) ⌝ }
 {
     let i = cell as usize;
     if i >= store.len() {
@@ -145,13 +174,13 @@ fn set(
         };
     }
     store[i] = value;
-    saved(file, place, store, 0, buffer, text)
+    saved(file, place, store, 0, buffer)
 }
 
 // `show`
-fn shown(place: Place, store: &[i32], buffer: &[u8], text: &mut [u8]) -> Answer
-    ensures { λ r. ⌜ Room r (length (now (buffer .entry))) (length (now (text .entry))) ⌝ }
-    ensures { λ r. ⌜ Says (now (buffer .entry)) (now (text .entry)) (shownLines place (now (store .entry))) r (now (buffer .entry)) (now (text .exit)) ⌝ }
+fn shown(place: Place, store: &[i32], text: &mut [u8; TEXT]) -> Answer
+    requires { ⌜ length (now store) ≤ 2048 ⌝ }
+    ensures { λ r. ⌜ Telling (now (text .entry)) (shownLines place (now (store .entry))) r (now (text .exit)) ⌝ }
 {
     let kinds = place.kinds;
     let labels = place.labels;
@@ -165,28 +194,52 @@ fn shown(place: Place, store: &[i32], buffer: &[u8], text: &mut [u8]) -> Answer
 }
 
 // What is done on a session that was read.
-fn found(
+fn done(
     deed: Deed,
     file: &[u8],
     place: Place,
     store: &mut [i32],
-    buffer: &mut [u8],
-    text: &mut [u8],
+    buffer: &mut [u8; SESSION],
+    text: &mut [u8; TEXT],
 ) -> Answer
-    ensures { λ r. ⌜ Room r (length (now (buffer .entry))) (length (now (text .entry))) ⌝ }
+    requires { ⌜ Sound (now file) place (now store) ⌝ }
     ensures { λ r. ⌜ Does (now (file .entry)) place (now (store .entry)) (now (buffer .entry)) (now (text .entry)) r (now (buffer .exit)) (now (text .exit)) deed ⌝ }
 {
     match deed {
-        Deed::Step(n) => {
-            let went = machine::run(file, place, store, n);
-            moved(file, went, store, buffer, text)
-        }
-        Deed::Back(n) => {
-            let went = machine::run_back(file, place, store, n);
-            moved(file, went, store, buffer, text)
-        }
-        Deed::Set(cell, value) => set(file, place, cell, value, store, buffer, text),
-        Deed::Show => shown(place, store, buffer, text),
+        Deed::Move(back, n) => moved(back, n, file, place, store, buffer, text),
+        Deed::Set(cell, value) => set(cell, value, file, place, store, buffer),
+        Deed::Show => shown(place, store, text),
+    }
+}
+
+// The same on the session's bytes, with a store lent for its cells.
+fn opened(
+    deed: Deed,
+    file: &[u8],
+    session: &[u8],
+    store: &mut [i32],
+    buffer: &mut [u8; SESSION],
+    text: &mut [u8; TEXT],
+) -> Answer
+    requires { ⌜ Lent (now file) (now store) ⌝ }
+    ensures { λ r. ⌜ Answers deed (now (file .entry)) (now (session .entry)) (now (buffer .entry)) (now (text .entry)) r (now (buffer .exit)) (now (text .exit)) ⌝ }
+{
+    let r = saved::read(file, session, store);
+    let told = r.told;
+    let place = r.place;
+    match told {
+        Told::Refused(number, label) => refused(number, label, text),
+        Told::Done => done(deed, file, place, store, buffer, text),
+    }
+}
+
+// How many cells the file's program has, 0 for one that is refused.
+fn cells_of(file: &[u8]) -> usize
+    ensures { λ r. ⌜ CellsOf (now (file .entry)) r ⌝ }
+{
+    match program::check(file) {
+        Checked::Refused(_, _) => 0,
+        Checked::Accepted(_, _, cells) => cells,
     }
 }
 
@@ -195,18 +248,13 @@ pub(crate) fn answered(
     deed: Deed,
     file: &[u8],
     session: &[u8],
-    store: &mut [i32],
-    buffer: &mut [u8],
-    text: &mut [u8],
+    buffer: &mut [u8; SESSION],
+    text: &mut [u8; TEXT],
 ) -> Answer
-    ensures { λ r. ⌜ Room r (length (now (buffer .entry))) (length (now (text .entry))) ⌝ }
-    ensures { λ r. ⌜ Answers deed (now (file .entry)) (now (session .entry)) (now (store .entry)) (now (buffer .entry)) (now (text .entry)) r (now (buffer .exit)) (now (text .exit)) ⌝ }
+    ensures { λ r. ⌜ Answers deed (now (file .entry)) (now (session .entry)) (now (buffer .entry)) (now (text .entry)) r (now (buffer .exit)) (now (text .exit)) ⌝ }
+    ensures { λ r. ⌜ Room r (length (now (buffer .exit))) (length (now (text .exit))) ⌝ }
 {
-    let r = saved::read(file, session, store);
-    let told = r.told;
-    let place = r.place;
-    match told {
-        Told::Refused(number, label) => refused(number, label, buffer, text),
-        Told::Done => found(deed, file, place, store, buffer, text),
-    }
+    let mut store = zeros();
+    let cells = cells_of(file);
+    opened(deed, file, session, &mut store[..cells], buffer, text)
 }

@@ -4,10 +4,9 @@ use crate::number::Natural;
 use crate::number::read_integer;
 use crate::number::read_natural;
 
-// What is done to a session: step and back say how many steps, set the cell and its value.
+// What is done to a session: a move says whether it goes back, and how many steps; set the cell and its value.
 pub enum Deed {
-    Step(u32),
-    Back(u32),
+    Move(bool, u32),
     Set(u32, i32),
     Show,
 }
@@ -72,16 +71,9 @@ fn steps(count: usize, word: &[u8]) -> Natural {
     read_natural(word)
 }
 
-fn step(count: usize, word: &[u8]) -> Command {
+fn moves(back: bool, count: usize, word: &[u8]) -> Command {
     match steps(count, word) {
-        Natural::Is(n) => Command::On(Deed::Step(n)),
-        Natural::Not => Command::Wrong,
-    }
-}
-
-fn back(count: usize, word: &[u8]) -> Command {
-    match steps(count, word) {
-        Natural::Is(n) => Command::On(Deed::Back(n)),
+        Natural::Is(n) => Command::On(Deed::Move(back, n)),
         Natural::Not => Command::Wrong,
     }
 }
@@ -123,11 +115,15 @@ fn named(name: &[u8], count: usize, fourth: &[u8], fifth: &[u8]) -> Command {
     if is(name, b"start") {
         return start(count, fourth);
     }
+    changing(name, count, fourth, fifth)
+}
+
+fn changing(name: &[u8], count: usize, fourth: &[u8], fifth: &[u8]) -> Command {
     if is(name, b"step") {
-        return step(count, fourth);
+        return moves(false, count, fourth);
     }
     if is(name, b"back") {
-        return back(count, fourth);
+        return moves(true, count, fourth);
     }
     if is(name, b"set") {
         return set(count, fourth, fifth);

@@ -1,26 +1,23 @@
 // Files in, answers out: both files are read before either is judged, and a session is written before its answer is printed.
 ghost use lib.ListN.{length};
 ghost use Rattle.io.specs.Counts.{Counts};
-ghost use Rattle.bench.specs.Room.{Room, Lent};
+ghost use Rattle.bench.specs.Inner.{Room};
 use crate::answer::Answer;
+use crate::answer::SESSION;
 use crate::answer::answered;
-use crate::answer::cells_of;
 use crate::answer::checked;
 use crate::answer::started;
 use crate::command::Command;
 use crate::command::Deed;
 use files::Got;
 use libc::STDERR_FILENO;
+use print::TEXT;
 
-// One byte more than the longest program file, and than the longest session that could be sound.
+// One byte more than the longest program file.
 const FILE: usize = 32769;
-
-const SESSION: usize = 69961;
 
 // A word of the command line has fewer bytes on Linux.
 const NAME: usize = 131072;
-
-const CELLS: usize = 2048;
 
 fn no_file() -> [u8; FILE] {
     [0; FILE]
@@ -34,8 +31,8 @@ fn no_name() -> [u8; NAME] {
     [0; NAME]
 }
 
-fn zeros() -> [i32; CELLS] {
-    [0; CELLS]
+fn no_text() -> [u8; TEXT] {
+    [0; TEXT]
 }
 
 fn complain(name: &[u8], error: i32) {
@@ -54,8 +51,8 @@ fn usage() {
 }
 
 // Saves the new session, if there is one, then says the text.
-fn finish(name: &[u8], answer: Answer, buffer: &[u8], text: &[u8])
-    requires { ⌜ Room answer (length (now buffer)) (length (now text)) ⌝ }
+fn finish(name: &[u8], answer: Answer, buffer: [u8; SESSION], text: [u8; TEXT])
+    requires { ⌜ Room answer (length buffer) (length text) ⌝ }
 {
     if answer.wrong {
         usage();
@@ -74,51 +71,24 @@ fn finish(name: &[u8], answer: Answer, buffer: &[u8], text: &[u8])
 }
 
 fn check(file: &[u8]) {
-    let mut text = io::large_buffer();
+    let mut text = no_text();
     let n = checked(file, &mut text);
     files::say(b"bench", &text[..n]);
 }
 
-// A store of zeros, of which the first `count` are the cells of the file's program.
-struct Fresh {
-    cells: [i32; CELLS],
-    count: usize,
-}
-
-fn store_of(file: &[u8]) -> Fresh
-    ensures { λ r. ⌜ Lent (r .count) (r .cells) ⌝ }
-{
-    let cells = zeros();
-    let count = cells_of(file);
-    Fresh { cells, count }
-}
-
 // What is done on the session with that name.
 fn on_session(deed: Deed, file: &[u8], name: &[u8], session: &[u8]) {
-    let fresh = store_of(file);
-    let mut store = fresh.cells;
-    let cells = fresh.count;
     let mut buffer = no_session();
-    let mut text = io::large_buffer();
-    let answer = answered(
-        deed,
-        file,
-        session,
-        &mut store[..cells],
-        &mut buffer,
-        &mut text,
-    );
-    finish(name, answer, &buffer, &text);
+    let mut text = no_text();
+    let answer = answered(deed, file, session, &mut buffer, &mut text);
+    finish(name, answer, buffer, text);
 }
 
 fn start(up: bool, file: &[u8], name: &[u8]) {
-    let fresh = store_of(file);
-    let store = fresh.cells;
-    let cells = fresh.count;
     let mut buffer = no_session();
-    let mut text = io::large_buffer();
-    let answer = started(file, up, &store[..cells], &mut buffer, &mut text);
-    finish(name, answer, &buffer, &text);
+    let mut text = no_text();
+    let answer = started(file, up, &mut buffer, &mut text);
+    finish(name, answer, buffer, text);
 }
 
 // What was read is the first `size` bytes of the buffer; where nothing was, that was complained of.

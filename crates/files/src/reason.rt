@@ -15,12 +15,8 @@ fn put_number(error: i32) {
 
 // The kit has the C library's words for the last error only, and only as a line of its own: so here are those that files meet.
 pub(crate) fn tell(error: i32) {
-    if !of_name(error) {
-        if !of_kind(error) {
-            if !of_device(error) {
-                put(b"an error of the system");
-            }
-        }
+    if !known(error) {
+        put(b"an error of the system");
     }
     put_number(error);
 }
@@ -30,12 +26,32 @@ fn said(text: &[u8]) -> bool {
     true
 }
 
-fn of_name(error: i32) -> bool {
+fn known(error: i32) -> bool {
+    if of_path(error) {
+        return true;
+    }
+    if of_name(error) {
+        return true;
+    }
+    if of_right(error) {
+        return true;
+    }
+    of_system(error)
+}
+
+fn of_system(error: i32) -> bool {
+    if of_kind(error) {
+        return true;
+    }
+    if of_device(error) {
+        return true;
+    }
+    of_moment(error)
+}
+
+fn of_path(error: i32) -> bool {
     if error == libc::ENOENT {
         return said(b"No such file or directory");
-    }
-    if error == libc::EACCES {
-        return said(b"Permission denied");
     }
     if error == libc::ENOTDIR {
         return said(b"Not a directory");
@@ -43,30 +59,41 @@ fn of_name(error: i32) -> bool {
     if error == libc::EISDIR {
         return said(b"Is a directory");
     }
+    false
+}
+
+fn of_name(error: i32) -> bool {
     if error == libc::ENAMETOOLONG {
         return said(b"File name too long");
     }
     if error == libc::ELOOP {
         return said(b"Too many levels of symbolic links");
     }
+    if error == libc::EXDEV {
+        return said(b"Invalid cross-device link");
+    }
+    false
+}
+
+fn of_right(error: i32) -> bool {
+    if error == libc::EACCES {
+        return said(b"Permission denied");
+    }
+    if error == libc::EPERM {
+        return said(b"Operation not permitted");
+    }
+    if error == libc::EROFS {
+        return said(b"Read-only file system");
+    }
     false
 }
 
 fn of_kind(error: i32) -> bool {
-    if error == libc::EPERM {
-        return said(b"Operation not permitted");
-    }
     if error == libc::EBADF {
         return said(b"Bad file descriptor");
     }
     if error == libc::EINVAL {
         return said(b"Invalid argument");
-    }
-    if error == libc::EXDEV {
-        return said(b"Invalid cross-device link");
-    }
-    if error == libc::EROFS {
-        return said(b"Read-only file system");
     }
     if error == libc::EMFILE {
         return said(b"Too many open files");
@@ -84,6 +111,10 @@ fn of_device(error: i32) -> bool {
     if error == libc::ENOSPC {
         return said(b"No space left on device");
     }
+    false
+}
+
+fn of_moment(error: i32) -> bool {
     if error == libc::EPIPE {
         return said(b"Broken pipe");
     }

@@ -1,2 +1,4 @@
 -- The definitions of `print`.
 pub mod Lines
+pub mod Rows
+pub mod Zeros

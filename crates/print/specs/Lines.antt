@@ -1,27 +1,23 @@
--- The lines that `run` and `bench` print: each is a row of pieces, and a definition says what writing a row into a buffer leaves.
+-- The lines that `run` and `bench` print, each a row of pieces, and the text that they make.
 use Prim.Native.Nat.{ℕ, zero, suc}
+use mathlib.Core.Path.{_≡_}
 use mathlib.Core.Bool.{cond}
-use mathlib.Core.List.{List, [], _∷_, _++_}
+use mathlib.Core.List.{List, [], _∷_, _++_, flatten}
 use lib.Dec.{eqb, ltb}
 use lib.IntN.{ℤ, pos, negsuc}
-use lib.ListN.{getD}
-use Rattle.words.specs.Words.{put, after, decimal, signedDecimal}
+use lib.ListN.{length, drop, getD}
+use Rattle.words.specs.Words.{decimal, signedDecimal}
 
--- ---- a row of pieces, written one after another; a piece that does not fit is left out
-unfoldable pub putAll : List ℕ → ℕ → List (List ℕ) → List ℕ
-putAll b at [] = b
-putAll b at (w ∷ ws) = putAll (put b at w) (after b at w) ws
+-- The text of the lines ws stands whole at the start of a buffer, which was b and is c afterwards, all else as it was; n is its length.
+pub record Text (b : List ℕ) (ws : List (List ℕ)) (c : List ℕ) (n : ℕ) : Type 0 where
+  pub size : n ≡ length (flatten ws)
+  pub bytes : c ≡ flatten ws ++ drop n b
 
--- The position after them.
-unfoldable pub afterAll : List ℕ → ℕ → List (List ℕ) → ℕ
-afterAll b at [] = at
-afterAll b at (w ∷ ws) = afterAll (put b at w) (after b at w) ws
+-- ---- the lines
 
 -- Two numbers with words before, between and after them.
 unfoldable pub pair : List ℕ → ℕ → List ℕ → ℕ → List ℕ → List (List ℕ)
 pair first m second n end = first ∷ decimal m ∷ second ∷ decimal n ∷ end ∷ []
-
--- ---- the lines
 
 -- "1 to 8 carry their record in every call": `refused N record R`; the other numbers have none: `refused N`
 abbrev pub refused : List ℕ

@@ -1,7 +1,11 @@
 // The lines that `run` and `bench` print, written into a lent buffer at a position; each answers the position after what it wrote.
 ghost use mathlib.Core.Path.{_≡_};
 ghost use Prim.Native.Nat.{min};
-ghost use Rattle.print.specs.Lines.{putAll, afterAll, pair, refusedLine, stepsLine, atLine, frameLine, frameLines, cellLine, shown, cellLines, acceptedLine};
+ghost use Rattle.print.specs.Rows.{putAll, afterAll};
+ghost use Rattle.print.specs.Lines.{pair, refusedLine, stepsLine, atLine, frameLine, frameLines, cellLine, shown, cellLines, acceptedLine};
+
+// Room for every text of `run` and `bench`: a place in at most 50 bytes, 1,104 frames and 2,048 cells in at most 48 each.
+pub const TEXT: usize = 151346;
 
 // Two numbers with words before, between and after them.
 fn put_pair(

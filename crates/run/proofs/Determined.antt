@@ -1,6 +1,6 @@
 -- What `run` prints is determined: two reports of one file into one buffer are equal.
 use Prim.Native.Nat.{ℕ}
-use mathlib.Core.Path.{_≡_, sym, ap, ap₂, _∙_}
+use mathlib.Core.Path.{_≡_, sym, ap, ap₂}
 use mathlib.Core.List.{List}
 use Rattle.codes.specs.Codes.{AllBytes}
 use Rattle.order.specs.Trees.{Tree, cells}
@@ -9,8 +9,10 @@ use Rattle.moves.specs.Places.{down}
 use Rattle.moves.specs.Step.{start}
 use Rattle.moves.specs.Runs.{run as running}
 use Rattle.machine.proofs.OneAnswer.{not-both, faults-one}
-use Rattle.print.specs.Lines.{putAll, afterAll, refusedLine}
-use Rattle.run.specs.Report.{noughts, ranLines, Prints, refused, ran, Reports}
+use Rattle.print.specs.Zeros.{noughts}
+use Rattle.print.specs.Lines.{refusedLine}
+use Rattle.print.proofs.Rows.{text-one}
+use Rattle.run.specs.Report.{ranLines, Prints, refused, ran, Reports}
 
 module _ (f : List ℕ) (B : AllBytes f) where
   prints-one : {l m : List (List ℕ)} → Prints f l → Prints f m → l ≡ m
@@ -22,4 +24,4 @@ module _ (f : List ℕ) (B : AllBytes f) where
   pub report-determined : (b c c′ : List ℕ) (r r′ : ℕ) → Reports f b c r → Reports f b c′ r′ → (r ≡ r′) × (c ≡ c′)
   report-determined b c c′ r r′ h k =
       let e = prints-one (h .prints) (k .prints) in
-      (h .position ∙ (ap (afterAll b 0) e ∙ sym (k .position)), h .text ∙ (ap (putAll b 0) e ∙ sym (k .text)))
+      text-one (h .text) (rw (sym e) at (k .text))

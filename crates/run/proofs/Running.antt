@@ -1,13 +1,11 @@
 -- An accepted file's run, as the machine answers it, is reported in the document's lines.
 --     few       so many cells have room
---     zeros     the first of many zeros are zeros
 --     reports   the machine's answers, printed, are what `run` prints
-use Prim.Native.Nat.{ℕ, zero, suc, _≤_}
+use Prim.Native.Nat.{ℕ, _+_, _*_, _≤_}
 use mathlib.Core.Path.{_≡_, refl, sym, ap, _∙_, subst}
-use mathlib.Core.List.{List, _∷_}
+use mathlib.Core.List.{List, _++_}
 use native.Mathlib.Omega.{arith}
-use lib.IntN.{pos}
-use lib.ListN.{length, take, replicate}
+use lib.ListN.{length}
 use Rattle.codes.specs.Codes.{AllBytes}
 use Rattle.place.specs.declared.Place.{Place as Held}
 use Rattle.place.specs.Slots.{held}
@@ -29,23 +27,30 @@ use Rattle.machine.specs.Answers.{Gives, done, RunSays, ran, StartSays, started
 use Rattle.machine.specs.Whole.{toldBy}
 use Rattle.machine.proofs.Giving.{by-gives}
 use Rattle.machine.proofs.OneAnswer.{run-one, start-one}
-use Rattle.print.specs.Lines.{putAll, afterAll, refusedLine}
-use Rattle.print.proofs.Rows.{within}
-use Rattle.run.specs.Report.{noughts, length-noughts, reportLines, ranLines, Prints, Reports, Counted, Numbered}
+use Rattle.print.specs.Zeros.{noughts}
+use Rattle.print.proofs.Zeros.{length-noughts}
+use Rattle.print.specs.Lines.{refusedLine, stepsLine, atLine, cellLines}
+use Rattle.print.proofs.Rows.{Row, whole, within, size, size-append, refused-size, steps-size, at-size, cells-size}
+use Rattle.run.specs.Report.{reportLines, ranLines, Prints, Reports, Counted, Numbered}
 use Rattle.run.specs.Report as report
-
-first-zeros : (n m : ℕ) → n ≤ m → take n (replicate m (pos 0)) ≡ replicate n (pos 0)
-first-zeros zero m h = refl
-first-zeros (suc n) zero h = absurd (omega arith)
-first-zeros (suc n) (suc m) h = ap (_∷_ (pos 0)) (first-zeros n m (omega arith))
-
-pub zeros : (n m : ℕ) → n ≤ m → take n (noughts m) ≡ noughts n
-unfolding noughts
-zeros n m h = first-zeros n m h
 
 -- what is printed of a run's answer
 abbrev said : ℕ → ℕ → Held → Store → List (List ℕ)
 said reason steps q σ = reportLines steps reason (q .a) (q .b) (q .direction) σ
+
+-- how long that is
+said-size : (reason steps : ℕ) (q : Held) (σ : Store) → size (said reason steps q σ) ≤ 103 + 48 * length σ
+unfolding reportLines
+said-size reason steps q σ =
+    let a = atLine (q .a) (q .b) (q .direction) in
+    omega (
+      arith,
+      size-append (stepsLine steps reason) (a ++ cellLines 0 σ),
+      size-append a (cellLines 0 σ),
+      steps-size steps reason,
+      at-size (q .a) (q .b) (q .direction),
+      cells-size 0 σ,
+    )
 
 on-zeros : {f : List ℕ} {t : Tree} {n : ℕ} → Accepts f t → n ≡ cells t → Prints f (ranLines (running t 1000000 (start t down) (noughts n)))
 on-zeros A e = rw e (report.ran A)
@@ -60,10 +65,11 @@ module _ (f : List ℕ) (B : AllBytes f) (n : ℕ) (C : Counted f n) where
   pub few : n ≤ 2048
   few = omega (arith, tree .cells-are′, cells-few (tree .accepts))
 
+  -- the lines of the machine's answer are those of the run, and they fit a buffer of so many bytes
   pub reports :
-      (b c : List ℕ) (r : ℕ) (σ₀ : Store) (told₀ : Told) (q : Held) (told : Told) (steps : ℕ) (q′ : Held) (σ′ : Store) (reason : ℕ) → σ₀ ≡ noughts n → StartSays f down told₀ q
-      → RunSays running f q σ₀ 1000000 told steps q′ σ′ → Numbered told reason → r ≡ afterAll b 0 (said reason steps q′ σ′) → c ≡ putAll b 0 (said reason steps q′ σ′) → Reports f b c r
-  reports b c r σ₀ told₀ q told steps q′ σ′ reason e₀ s u w er ec =
+      (b c : List ℕ) (r : ℕ) (σ₀ : Store) (told₀ : Told) (q : Held) (told : Told) (steps : ℕ) (q′ : Held) (σ′ : Store) (reason : ℕ) → length b ≡ 151346 → length σ′ ≡ length σ₀ → σ₀ ≡ noughts n → StartSays f down told₀ q
+      → RunSays running f q σ₀ 1000000 told steps q′ σ′ → Numbered told reason → Row b 0 (said reason steps q′ σ′) c r → Reports f b c r
+  reports b c r σ₀ told₀ q told steps q′ σ′ reason room same e₀ s u w row =
       let t = tree .tree in
       let A = tree .accepts in
       let σ = noughts n in
@@ -77,15 +83,15 @@ module _ (f : List ℕ) (B : AllBytes f) (n : ℕ) (C : Counted f n) where
       record {
         lines = ranLines x;
         prints = on-zeros A (tree .cells-are′);
-        position = er ∙ ap (afterAll b 0) l;
-        text = ec ∙ ap (putAll b 0) l;
+        text = rw l at (whole b c r (said reason steps q′ σ′) (omega (arith, room, said-size reason steps q′ σ′, same, ap length e₀, length-noughts n, few)) row);
       }
 
 -- A refused file's line.
 pub refusal :
-    (f : List ℕ) (a : Checked) → Says f (given a) → (b c : List ℕ) (r n k : ℕ) → a ≡ RefusedFile n k → (r ≡ afterAll b 0 (refusedLine n k)) × (c ≡ putAll b 0 (refusedLine n k)) → Reports f b c r
-refusal f a s b c r n k e h = record { lines = refusedLine n k; prints = report.refused (refused-of f a n k s e); position = h .0; text = h .1 }
+    (f : List ℕ) (a : Checked) → Says f (given a) → (b c : List ℕ) (r n k : ℕ) → length b ≡ 151346 → a ≡ RefusedFile n k → Row b 0 (refusedLine n k) c r → Reports f b c r
+refusal f a s b c r n k room e h =
+    record { lines = refusedLine n k; prints = report.refused (refused-of f a n k s e); text = whole b c r (refusedLine n k) (omega (arith, room, refused-size n k)) h }
 
 -- What is reported lies within the buffer.
-pub reported : (f b c : List ℕ) (r : ℕ) → Reports f b c r → r ≤ length b
-reported f b c r h = rw (h .position) (within b 0 (h .lines) (omega arith))
+pub reported : {f b c : List ℕ} {r : ℕ} → Reports f b c r → r ≤ length c
+reported h = within (h .text)

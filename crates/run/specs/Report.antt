@@ -2,8 +2,7 @@
 use Prim.Native.Nat.{ℕ}
 use mathlib.Core.Path.{_≡_}
 use mathlib.Core.List.{List, _++_}
-use lib.IntN.{ℤ, pos}
-use lib.ListN.{length, replicate, length-replicate}
+use lib.IntN.{ℤ}
 use Rattle.place.specs.Slots.{dirNumber}
 use Rattle.order.specs.Trees.{Tree, cells}
 use Rattle.program.specs.Says.{fault, counts, Accepts, Says}
@@ -12,11 +11,8 @@ use Rattle.moves.specs.Step.{start}
 use Rattle.moves.specs.Runs.{Ran, stopNumber, run}
 use Rattle.machine.specs.declared.Told.{Told}
 use Rattle.machine.specs.Answers.{Gives}
-use Rattle.print.specs.Lines.{putAll, afterAll, refusedLine, stepsLine, atLine, cellLines}
-
--- So many zeros, under a name that stays shut.
-unfoldable pub noughts : ℕ → List ℤ
-noughts n = replicate n (pos 0)
+use Rattle.print.specs.Zeros.{noughts}
+use Rattle.print.specs.Lines.{Text, refusedLine, stepsLine, atLine, cellLines}
 
 -- "Its first line is steps made and reason; the second a, b and direction; then each nonzero cell, number and value, ascending."
 unfoldable pub reportLines : ℕ → ℕ → ℕ → ℕ → ℕ → List ℤ → List (List ℕ)
@@ -30,18 +26,13 @@ pub data Prints (f : List ℕ) : List (List ℕ) → Type 0 where
   refused : {n k : ℕ} → Says f (fault n k) → Prints f (refusedLine n k)
   ran : {t : Tree} → Accepts f t → Prints f (ranLines (run t 1000000 (start t down) (noughts (cells t))))
 
--- The text that it prints: the lines, from the start of the buffer b, which is c afterwards; r is the position after them.
+-- The lines stand whole at the start of the buffer b, which is c afterwards; r is their length.
 pub record Reports (f b c : List ℕ) (r : ℕ) : Type 0 where
   pub lines : List (List ℕ)
   pub prints : Prints f lines
-  pub position : r ≡ afterAll b 0 lines
-  pub text : c ≡ putAll b 0 lines
+  pub text : Text b lines c r
 
 -- ---- what the inner functions go by
-
-pub length-noughts : (n : ℕ) → length (noughts n) ≡ n
-unfolding noughts
-length-noughts n = length-replicate n (pos 0)
 
 -- the file is accepted with so many cells
 abbrev pub Counted : List ℕ → ℕ → Type 0

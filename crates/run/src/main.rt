@@ -1,11 +1,13 @@
 // The program `run`: a program file on standard input, from its start down on zeros, at most 1,000,000 steps.
 ghost use mathlib.Core.Path.{_≡_};
-ghost use Rattle.print.specs.Lines.{putAll, afterAll};
-ghost use Rattle.run.specs.Report.{noughts, reportLines, Reports, Counted, Zeroed, Numbered};
+ghost use Rattle.print.specs.Rows.{putAll, afterAll};
+ghost use Rattle.print.specs.Zeros.{noughts};
+ghost use Rattle.run.specs.Report.{reportLines, Reports, Counted, Zeroed, Numbered};
 use files::Got;
 use libc::STDIN_FILENO;
 use machine::Told;
 use place::Place;
+use print::TEXT;
 use program::Checked;
 
 // One byte more than is allowed is enough to know that a file is too long.
@@ -17,6 +19,10 @@ const STEPS: u32 = 1000000;
 
 fn no_file() -> [u8; ROOM] {
     [0; ROOM]
+}
+
+fn no_text() -> [u8; TEXT] {
+    [0; TEXT]
 }
 
 fn zeros() -> [i32; CELLS]
@@ -45,7 +51,7 @@ fn put_report(text: &mut [u8], steps: u32, reason: u8, place: Place, store: &[i3
 }
 
 // A run of a program that is accepted, on a store of zeros.
-fn walked(file: &[u8], store: &mut [i32], text: &mut [u8]) -> usize
+fn walked(file: &[u8], store: &mut [i32], text: &mut [u8; TEXT]) -> usize
     requires { ⌜ Zeroed (now file) (now store) ⌝ }
     ensures { λ r. ⌜ Reports (now (file .entry)) (now (text .entry)) (now (text .exit)) r ⌝ }
 {
@@ -57,7 +63,7 @@ fn walked(file: &[u8], store: &mut [i32], text: &mut [u8]) -> usize
     put_report(text, went.steps, reason(told), last, store)
 }
 
-fn ran(file: &[u8], cells: usize, text: &mut [u8]) -> usize
+fn ran(file: &[u8], cells: usize, text: &mut [u8; TEXT]) -> usize
     requires { ⌜ Counted (now file) cells ⌝ }
     ensures { λ r. ⌜ Reports (now (file .entry)) (now (text .entry)) (now (text .exit)) r ⌝ }
 {
@@ -66,7 +72,7 @@ fn ran(file: &[u8], cells: usize, text: &mut [u8]) -> usize
 }
 
 // What is printed for a file, at the start of `text`; its length.
-fn report(file: &[u8], text: &mut [u8]) -> usize
+fn report(file: &[u8], text: &mut [u8; TEXT]) -> usize
     ensures { λ r. ⌜ Reports (now (file .entry)) (now (text .entry)) (now (text .exit)) r ⌝ }
 {
     match program::check(file) {
@@ -76,7 +82,7 @@ fn report(file: &[u8], text: &mut [u8]) -> usize
 }
 
 fn answer(file: &[u8]) {
-    let mut text = io::large_buffer();
+    let mut text = no_text();
     let n = report(file, &mut text);
     files::say(b"run", &text[..n]);
 }

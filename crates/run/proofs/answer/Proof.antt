@@ -8,7 +8,7 @@ use Rattle.run.proofs.answer.Statement.{statement}
 use Rattle.run.proofs.answer.Tie as tie
 
 array-share-prefix-text : tie.Need-array-share-prefix-text
-array-share-prefix-text c = let r = c .before .before .report in omega (arith, reported _ _ _ _ (r .ensures), r .kept .1 .0)
+array-share-prefix-text c = let r = c .before .report in reported (r .ensures)
 
 slice-aggregate-say-2 : tie.Need-slice-aggregate-say-2
 slice-aggregate-say-2 c = sym (length-take-le _ _ (array-share-prefix-text (c .before)))
@@ -18,7 +18,6 @@ answer-spec =
     tie.close
     (tie.spec
     (λ c κs. search needs)
-    (λ c. search needs)
     (λ c κs. search needs)
     (λ c. search needs)
     array-share-prefix-text

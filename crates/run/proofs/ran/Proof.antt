@@ -6,15 +6,15 @@ use lib.ListN.{length, take}
 use lib.Seq.{length-take-le}
 use denote.Ref.{now}
 use borrow.Author.Needs.{needs}
-use Rattle.run.specs.Report.{length-noughts}
-use Rattle.run.proofs.Running.{few, zeros}
+use Rattle.print.proofs.Zeros.{length-noughts, zeros}
+use Rattle.run.proofs.Running.{few}
 use Rattle.run.proofs.ran.Statement.{statement}
 use Rattle.run.proofs.ran.Tie as tie
 
 array-borrow-prefix-store : tie.Need-array-borrow-prefix-store
 array-borrow-prefix-store c =
-    let s = c .before .before .before in
-    let h : s .args .cells ≤ 2048 = few (now (s .args .file)) (λ i. omega (arith, c .before .before .shared-slice-known .given i)) (s .args .cells) (s .pre) in
+    let s = c .before .before in
+    let h : s .args .cells ≤ 2048 = few (now (s .args .file)) (λ i. omega (arith, c .before .shared-slice-known .given i)) (s .args .cells) (s .pre) in
     let e : length (c .zeros .result) ≡ 2048 = ap length (c .zeros .ensures) ∙ length-noughts 2048 in
     omega (arith, h, e)
 
@@ -24,10 +24,10 @@ slice-aggregate-walked c = sym (length-take-le _ _ (array-borrow-prefix-store (c
 walked-requires : tie.Need-walked-requires
 walked-requires c κs =
     let z = c .before .before in
-    let s = z .before .before .before in
-    let h : s .args .cells ≤ 2048 = few (now (s .args .file)) (λ i. omega (arith, z .before .before .shared-slice-known .given i)) (s .args .cells) (s .pre) in
+    let s = z .before .before in
+    let h : s .args .cells ≤ 2048 = few (now (s .args .file)) (λ i. omega (arith, z .before .shared-slice-known .given i)) (s .args .cells) (s .pre) in
     (s .args .cells, ap (take (s .args .cells)) (z .zeros .ensures) ∙ zeros (s .args .cells) 2048 h, s .pre)
 
 pub ran-spec : {M : Type 1} → statement M
 ran-spec =
-    tie.close (tie.spec (λ c κs. search needs) array-borrow-prefix-store slice-aggregate-walked walked-requires (λ c. search needs) (λ c. search needs))
+    tie.close (tie.spec (λ c κs. search needs) array-borrow-prefix-store slice-aggregate-walked walked-requires (λ c. search needs))

@@ -11,11 +11,10 @@ ran-requires c κs = let k = c .before .before .before .before in (_, _, accepte
 
 returns : tie.Need-returns
 returns c =
-    let p = c .before .before in
-    let m = p .before .before .before in
+    let m = c .before .before .before in
     let k = m .before .before in
-    let s = k .before .before .before in
-    refusal (now (s .args .file)) (k .check .result) (k .check .ensures) _ _ _ _ _ (m .number .given .1) (p .put-refused .ensures)
+    let s = k .before .before in
+    refusal (now (s .args .file)) (k .check .result) (k .check .ensures) _ _ _ _ _ (search needs) (m .number .given .1) (c .put-refused .ensures)
 
 pub report-spec : {M : Type 1} → statement M
 report-spec =
@@ -26,7 +25,5 @@ report-spec =
     (λ c κs. search needs)
     (λ c. search needs)
     ran-requires
-    (λ c. search needs)
     returns
-    (λ c. search needs)
     (λ c. search needs))

@@ -1,6 +1,6 @@
 -- `run::zeros` meets its contract. Assumes nothing.
 use mathlib.Core.Path.{refl}
-use Rattle.run.specs.Report.{noughts}
+use Rattle.print.specs.Zeros.{noughts}
 use Rattle.run.proofs.zeros.Statement.{statement}
 use Rattle.run.proofs.zeros.Tie as tie
 

@@ -1,21 +1,21 @@
--- `bench::answer::moved` meets its contract. Assumes nothing.
-use Rattle.print.proofs.Rows.{joined}
-use Rattle.bench.proofs.Answering.{saves}
-use Rattle.bench.proofs.Rooms.{next, begun}
+-- `bench::answer::moved` meets its contract: what stands after a run is saved. Assumes nothing.
+use native.Mathlib.Omega.{arith}
 use borrow.Author.Needs.{needs}
+use Rattle.bench.proofs.Answering.{goes, moves}
 use Rattle.bench.proofs.answer.moved.Statement.{statement}
 use Rattle.bench.proofs.answer.moved.Tie as tie
 
 saved-requires : tie.Need-saved-requires
 saved-requires c κs =
-    let p = c .before .before .before .before in
-    let q = c .before .before .before .before .before .before .before .before in
-    next _ (p .put-at .last .0) _ _ _ (begun _ (q .put-steps .last .0) _ _ (q .put-steps .ensures .0) (q .put-steps .kept .0)) (p .put-at .ensures .0) (p .put-at .kept .0)
+    let w = c .before .before .before .before .before .before .before in
+    let b = w .before .before in
+    goes (λ i. omega (arith, b .shared-slice-known .given i)) (b .before .args .back) (b .before .pre) (w .went .ensures)
 
 returns : tie.Need-returns
 returns c =
-    let q = c .before .before .before .before .before .before .before .before .before .before .before .before .before in
-    (search needs, λ n k g. saves (c .before .before .before .before .saved .result) (c .before .before .before .before .saved .ensures .1) (joined _ _ _ _ _ _ _ _ (rw (q .before .reason .ensures n k g) at (q .put-steps .ensures)) (c .before .before .before .before .before .before .before .before .before .put-at .ensures)))
+    let p = c .before .before .before in
+    let w = p .before .before .before .before .before in
+    moves (w .went .ensures) (p .before .reason .ensures) (c .saved .ensures) (p .put-moved .ensures)
 
 pub moved-spec : {M : Type 1} → statement M
 moved-spec =
@@ -25,6 +25,5 @@ moved-spec =
     (λ c κs. search needs)
     (λ c κs. search needs)
     saved-requires
-    (λ c. search needs)
     (λ c. search needs)
     returns)

@@ -1,22 +1,29 @@
 -- `bench::answer::started` meets its contract. Assumes nothing.
-use Rattle.bench.proofs.Answering.{start-refused, start-done, saves}
-use Rattle.bench.proofs.Rooms.{begun}
+use denote.Ref.{now}
 use borrow.Author.Needs.{needs}
+use Rattle.program.proofs.CheckSays.{refused-of}
+use Rattle.program.proofs.Few.{accepted-counts}
+use Rattle.bench.specs.Answers as answers
+use Rattle.bench.proofs.Answering.{started-room}
 use Rattle.bench.proofs.answer.started.Statement.{statement}
 use Rattle.bench.proofs.answer.started.Tie as tie
 
-enum-told : tie.Need-enum-told
-enum-told c = search needs
-
-saved-requires : tie.Need-saved-requires
-saved-requires c κs = let p = c .before .before .before .before in begun _ (p .put-at .last .0) _ _ (p .put-at .ensures .0) (p .put-at .kept .0)
+begun-requires : tie.Need-begun-requires
+begun-requires c κs =
+    let m = c .before .before .before in
+    let k = m .before .before in
+    (_, _, accepted-counts _ (k .check .result) (k .check .ensures) _ _ _ (m .cells .given .1))
 
 returns : tie.Need-returns
-returns c = (search needs, start-refused (c .before .before .before .before .before .before .told .given .1) (c .before .before .before .before .before .before .before .before .before .start .ensures) (c .before .before .refused .ensures .1))
+returns c =
+    let m = c .before .before .before in
+    let k = m .before .before in
+    let s = k .before .before in
+    let x = answers.Starts.refused (refused-of _ (k .check .result) _ _ (k .check .ensures) (m .number .given .1)) (c .refused .ensures (now (s .args .buffer))) in
+    (x, started-room x)
 
 returns-2 : tie.Need-returns-2
-returns-2 c =
-    (search needs, start-done (c .before .before .before .before .before .before .before .before .before .before .before .enum-told .given .1) (c .before .before .before .before .before .before .before .before .before .before .before .before .before .before .start .ensures) (saves (c .before .before .before .before .saved .result) (c .before .before .before .before .saved .ensures .1) (c .before .before .before .before .before .before .before .before .before .put-at .ensures)))
+returns-2 c = (c .begun .ensures, started-room (c .begun .ensures))
 
 pub started-spec : {M : Type 1} → statement M
 started-spec =
@@ -25,12 +32,7 @@ started-spec =
     (λ c κs. search needs)
     (λ c. search needs)
     (λ c κs. search needs)
-    enum-told
-    (λ c κs. search needs)
-    saved-requires
     (λ c. search needs)
-    (λ c. search needs)
+    begun-requires
     returns
-    (λ c. search needs)
-    (λ c. search needs)
     returns-2)
