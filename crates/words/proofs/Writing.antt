@@ -16,9 +16,7 @@ use lib.Dec.{T}
 use mir.Syntax.{w64}
 use mir.Val.{toZ, ofZ, Fits, SFits}
 use Rattle.values.proofs.Bits.{clash, notZ, not-reads as complement}
-use Rattle.codes.specs.Numbers.{written}
 use Rattle.codes.proofs.Cases.{sets-append}
-use Rattle.codes.proofs.Rows.{length-written}
 use Rattle.words.specs.Words.{fits, put, after, lastDigit, decimalBy, decimal, signedDecimal}
 
 -- ---- room
@@ -49,10 +47,6 @@ after-within b w at h = go (fits b at w) refl
 -- and so it does of the buffer afterwards, which is as long
 pub stays : (b c w : List ℕ) (at r : ℕ) → at ≤ length b → r ≡ after b at w → length c ≡ length b → r ≤ length c
 stays b c w at r h e k = rw (k, e) (after-within b w at h)
-
-pub length-put : (b w : List ℕ) (at : ℕ) → length (put b at w) ≡ length b
-unfolding written
-length-put b w at = length-written b at w
 
 -- the same said of other bytes that are equal
 pub said : (b now w v : List ℕ) (at r : ℕ) → w ≡ v → (r ≡ after b at w) × (now ≡ put b at w) → (r ≡ after b at v) × (now ≡ put b at v)
