@@ -7,11 +7,11 @@ use native.Mathlib.Nat.{add-comm}
 use native.Mathlib.Omega.{arith}
 use native.Mathlib.Decide.{ℕ-discrete}
 use borrow.Author.Tests.{lt-ltb, le-ltb, ltb-true, eq-eqb, ne-eqb}
-use lib.Dec.{ltb}
+use lib.Dec.{eqb, ltb}
 use lib.IntN.{ℤ, pos, negsuc}
 use lib.ListN.{getD, take, drop, length-take, List·getD-eq-default}
 use lib.Seq.{getD-take, getD-drop}
-use lib.Signed.{mag, ltZ}
+use lib.Signed.{ltZ}
 use mir.Syntax.{w32, w64}
 use mir.Val.{SFits, ofZ, toZ}
 use mir.Facts.{toZ-ofZ, sfits-lit}
@@ -19,15 +19,15 @@ use Rattle.codes.specs.Codes.{word16}
 use Rattle.codes.specs.Numbers.{word32, cellAt}
 use Rattle.values.specs.Values.{Value, is, zeroDivisor, applyOp}
 use Rattle.values.specs.Packed.{packed}
-use Rattle.values.proofs.Bits.{in32, wide-fits, wide-is}
+use Rattle.values.proofs.Bits.{wide-fits, wide-is}
 use Rattle.values.proofs.Laws.{apply-fits}
 use Rattle.expr.specs.Tree.{Arrays, Fault, byZero, badIndex, Worth, value, stop, worthOf, element, eval}
 use Rattle.expr.specs.Agreement.{both, indexed}
-use Rattle.expr.specs.Bytes.{upTo}
+use Rattle.expr.specs.Bytes.{Got, upTo}
 use Rattle.expr.specs.Answers.{InCell}
 use Rattle.expr.proofs.Agree.{worth-fits}
 use Rattle.expr.proofs.Layer.{upto-none, upto-out, upto-con, upto-var, upto-read, upto-bin}
-use Rattle.evaluate.specs.Answers.{arraysOf, worthAt, packedWorth, unpacked, entryIf, entryOf, movedTo, WorthSays, OnTheWay, readAt, bothAt, leafOf, leafEnd, LeafSays, Simple}
+use Rattle.evaluate.specs.Answers.{arraysOf, worthAt, packedWorth, unpacked, entryIf, entryOf, movedTo, WorthSays, OnTheWay, readAt, bothAt, leafOf, leafEnd, LeafSays}
 use Rattle.evaluate.specs.declared.Entry.{Entry}
 use Rattle.evaluate.specs.declared.Entry.the-variants.{At, Outside}
 
@@ -53,10 +53,10 @@ is-value z (stop byZero) e k t = absurd (true≢false (rw e at t))
 is-value z (stop badIndex) e k t = absurd (true≢false (rw e at t))
 
 -- so it can be cast
-pub narrow : (w : Worth) (next after : ℕ) (z : ℤ) → OnTheWay w next z after → ltZ (pos 2147483647) z ≡ false → SFits w32 z
-narrow w next after z o t = is-value z w (o .answer) (o .range) t .1
+pub narrow : (r : ℤ) (f : SFits w64 r) (w : Worth) (next after : ℕ) → OnTheWay w next r after → ltZ (pos 2147483647) (again64 r) ≡ false → SFits w32 (again64 r)
+narrow r f w next after o t = rw (toZ-ofZ f) (is-value r w (o .answer) (o .range) (rw (toZ-ofZ f) at t) .1)
 
-pub ruleset casts = (widened)
+pub ruleset casts = (widened, narrow)
 
 -- ---- `entry_of`
 module _ (l : List ℕ) (a : ℕ) where
@@ -137,16 +137,6 @@ module _ (s : List ℕ) (at : ℕ) (C : List ℤ) (tag : ℕ) (tg : tag ≡ getD
 
 pub ruleset leaves = (leaf-con, leaf-var)
 
--- ---- `simple`
-module _ (s : List ℕ) (at d : ℕ) where
-  pub simple-no : Simple s at d false
-  simple-no = record { deep = λ e. absurd (false≢true e); near = λ e. absurd (false≢true e); stands = λ e. absurd (false≢true e) }
-
-  pub simple-if : (t : ℕ) → (d ≡ 0 → ⊥) → at < 32768 → t ≡ getD s at 0 → Simple s at d (ltb t 2)
-  simple-if t nz h e = record { deep = λ k. nz; near = λ k. h; stands = λ k. rw e at (ltb-true t 2 k) }
-
-pub ruleset simples = (simple-no, simple-if)
-
 -- a constant or scalar is read at any depth
 module _ (A : List ℕ) (C : List ℤ) (s : List ℕ) (at d : ℕ) (nz : d ≡ 0 → ⊥) (near : at < 32768) (small : getD s at 0 < 2) where
   abbrev Leaf : Type 0
@@ -173,25 +163,14 @@ module _ (w : Worth) (next : ℕ) where
   way-on r after f o = rw (toZ-ofZ f) o
 
 -- what an answer says of the tree's worth, by the test that tells
-module _ (w : Worth) (next : ℕ) (z : ℤ) (after : ℕ) (o : OnTheWay w next z after) where
-  told-stop : ltZ (pos 2147483647) z ≡ true → (g : Fault) × ((w ≡ stop g) × (z ≡ packedWorth (stop g)))
-  told-stop t = let s = is-stop z w (o .answer) (o .range) t in (s .0, (s .1, o .answer ∙ ap packedWorth (s .1)))
+module _ (w : Worth) (next : ℕ) (r : ℤ) (after : ℕ) (o : OnTheWay w next r after) (f : SFits w64 r) where
+  told-stop : ltZ (pos 2147483647) (again64 r) ≡ true → (g : Fault) × ((w ≡ stop g) × (again64 r ≡ packedWorth (stop g)))
+  told-stop t = let s = is-stop r w (o .answer) (o .range) (rw (toZ-ofZ f) at t) in (s .0, (s .1, toZ-ofZ f ∙ o .answer ∙ ap packedWorth (s .1)))
 
-  told-value : ltZ (pos 2147483647) z ≡ false → (w ≡ value z) × (SFits w32 z × (after ≡ next))
-  told-value t = let s = is-value z w (o .answer) (o .range) t in (s .0, (s .1, o .place ∙ ap (λ (w : Worth). movedTo w after next) (s .0)))
-
--- an operand, whichever way it was evaluated: its answer is in n, 64 bits
-module _ (A : List ℕ) (C : List ℤ) (s : List ℕ) (at d n mid : ℕ) where
-  abbrev pub Operand : Type 0
-  Operand = OnTheWay (worthAt A C (upTo 32768 d s at)) (upTo 32768 d s at .next) (toZ w64 n) mid
-
-  pub by-leaf : (b : Bool) (v : ℤ) (after : ℕ) → b ≡ true → Simple s at d b → mag v < 2 ^ 31 → LeafSays s at C v after → mid ≡ after → n ≡ ofZ w64 (again v) → Operand
-  by-leaf b v after y k f o e q =
-      let l = leaf-read A C s at d (k .deep y) (k .near y) (k .stands y) in
-      rw q (way-value _ _ v mid (l .0 ∙ ap value (sym (o .answer))) (in32 v f) (e ∙ o .place ∙ sym (l .1)))
-
-  pub by-value : (r : ℤ) (after : ℕ) → mag r < 2 ^ 63 → OnTheWay (worthAt A C (upTo 32768 d s at)) (upTo 32768 d s at .next) r after → mid ≡ after → n ≡ ofZ w64 r → Operand
-  by-value r after f o e q = rw (q, e) (way-on _ _ r after (record { sfits = f }) o)
+  told-value : ltZ (pos 2147483647) (again64 r) ≡ false → (w ≡ value r) × (SFits w32 r × ((after ≡ next) × (again (again64 r) ≡ r)))
+  told-value t =
+      let s = is-value r w (o .answer) (o .range) (rw (toZ-ofZ f) at t) in
+      (s .0, (s .1, (o .place ∙ ap (λ (w : Worth). movedTo w after next) (s .0), ap again (toZ-ofZ f) ∙ toZ-ofZ (s .1))))
 
 -- where the position is the tree's end in any case
 at-end : (w : Worth) (after next : ℕ) → after ≡ next → after ≡ movedTo w after next
@@ -199,60 +178,65 @@ at-end (value v) after next e = e
 at-end (stop g) after next e = refl
 
 -- ---- `read`
-module _ (A : List ℕ) (C : List ℤ) (s : List ℕ) (d p b : ℕ) (i : ℤ) (after : ℕ) (o : OnTheWay (worthAt A C (upTo 32768 d s p)) (upTo 32768 d s p .next) i after) where
-  abbrev Reads : ℤ → Type 0
-  Reads r = OnTheWay (readAt A C b (upTo 32768 d s p)) (upTo 32768 d s p .next) r after
+module _ (A : List ℕ) (C : List ℤ) (b : ℕ) (g : Got) (i : ℤ) (after : ℕ) (o : OnTheWay (worthAt A C g) (g .next) i after) (f : SFits w64 i) where
+  pub read-stop : ltZ (pos 2147483647) (again64 i) ≡ true → OnTheWay (readAt A C b g) (g .next) (again64 i) after
+  read-stop t =
+      let s = told-stop (worthAt A C g) (g .next) i after o f t in
+      way-stop (readAt A C b g) (g .next) (s .0) (again64 i) after (ap (indexed (arraysOf A) C b) (s .1 .0)) (s .1 .1)
 
-  pub read-stop : ltZ (pos 2147483647) i ≡ true → Reads i
-  read-stop t = let w = told-stop _ _ i after o t in way-stop _ _ (w .0) i after (ap (indexed (arraysOf A) C b) (w .1 .0)) (w .1 .1)
+  module _ (t : ltZ (pos 2147483647) (again64 i) ≡ false) (a : ℕ) (x : Entry) (e : x ≡ entryOf (arraysOf A) a (again (again64 i))) (ab : a ≡ b) where
+    index : readAt A C b g ≡ element (arraysOf A) C a (again (again64 i))
+    index = let s = told-value (worthAt A C g) (g .next) i after o f t in rw (s .0, s .1 .1 .1, ab)
 
-  module _ (t : ltZ (pos 2147483647) i ≡ false) (a : ℕ) (x : Entry) (e : x ≡ entryOf (arraysOf A) a (again i)) (ab : a ≡ b) where
-    index : readAt A C b (upTo 32768 d s p) ≡ element (arraysOf A) C a (again i)
-    index = let w = told-value _ _ i after o t in rw (w .0, toZ-ofZ (w .1 .0), ab)
+    pub read-in : (c : ℕ) (v : ℤ) → x ≡ At c → SFits w32 v → v ≡ getD C c (pos 0) → OnTheWay (readAt A C b g) (g .next) (again64 (again v)) after
+    read-in c v q fv vv =
+        way-value (readAt A C b g) (g .next) v after (index ∙ given (arraysOf A) C a _ c (sym q ∙ e) ∙ ap value (sym vv)) fv
+        (told-value (worthAt A C g) (g .next) i after o f t .1 .1 .0)
 
-    pub read-in : (c : ℕ) (v : ℤ) → x ≡ At c → mag v < 2 ^ 31 → v ≡ getD C c (pos 0) → Reads (again64 (again v))
-    read-in c v q f vv =
-        way-value _ _ v after (index ∙ given (arraysOf A) C a _ c (sym q ∙ e) ∙ ap value (sym vv)) (in32 v f) (told-value _ _ i after o t .1 .1)
+    pub read-outside : x ≡ Outside → OnTheWay (readAt A C b g) (g .next) (pos 4294967329) after
+    read-outside q = way-stop (readAt A C b g) (g .next) badIndex (pos 4294967329) after (index ∙ none (arraysOf A) C a _ (sym q ∙ e)) refl
 
-    pub read-outside : x ≡ Outside → Reads (pos 4294967329)
-    read-outside q = way-stop _ _ badIndex (pos 4294967329) after (index ∙ none (arraysOf A) C a _ (sym q ∙ e)) refl
-
-pub ruleset reads = (read-in, read-outside)
+pub ruleset reads = (read-stop, read-in, read-outside)
 
 -- ---- `operated`
-packed-worth : (v : Value) → packed v ≡ packedWorth (worthOf v)
+pub packed-worth : (v : Value) → packed v ≡ packedWorth (worthOf v)
 packed-worth (is v) = refl
 packed-worth zeroDivisor = refl
 
-module _ (A : List ℕ) (C : List ℤ) (s : List ℕ) (d p b : ℕ) (l : ℤ) (mid : ℕ) (lo : OnTheWay (worthAt A C (upTo 32768 d s p)) (upTo 32768 d s p .next) l mid) where
+module _ (A : List ℕ) (C : List ℤ) (s : List ℕ) (d p b : ℕ) (l : ℤ) (mid : ℕ)
+    (lo : OnTheWay (worthAt A C (upTo 32768 d s p)) (upTo 32768 d s p .next) l mid) (fl : SFits w64 l) where
   abbrev Goes : ℤ → ℕ → Type 0
   Goes r after =
       OnTheWay (bothAt A C b (upTo 32768 d s p) (upTo 32768 d s (upTo 32768 d s p .next))) (upTo 32768 d s (upTo 32768 d s p .next) .next) r after
 
-  pub left-stop : (after : ℕ) → ltZ (pos 2147483647) l ≡ true → Goes l after
+  pub left-stop : (after : ℕ) → ltZ (pos 2147483647) (again64 l) ≡ true → Goes (again64 l) after
   left-stop after t =
-      let w = told-stop _ _ l mid lo t in
-      way-stop _ _ (w .0) l after (ap (λ (x : Worth). both b x (worthAt A C (upTo 32768 d s (upTo 32768 d s p .next)))) (w .1 .0)) (w .1 .1)
+      let w = told-stop _ _ l mid lo fl t in
+      way-stop _ _ (w .0) (again64 l) after (ap (λ (x : Worth). both b x (worthAt A C (upTo 32768 d s (upTo 32768 d s p .next)))) (w .1 .0)) (w .1 .1)
 
-  module _ (tl : ltZ (pos 2147483647) l ≡ false) (r : ℤ) (after : ℕ) (ro : OnTheWay (worthAt A C (upTo 32768 d s mid)) (upTo 32768 d s mid .next) r after) where
-    pub right-stop : ltZ (pos 2147483647) r ≡ true → Goes r after
+  module _ (tl : ltZ (pos 2147483647) (again64 l) ≡ false) (r : ℤ) (after : ℕ)
+      (ro : OnTheWay (worthAt A C (upTo 32768 d s mid)) (upTo 32768 d s mid .next) r after) (fr : SFits w64 r) where
+    pub right-stop : ltZ (pos 2147483647) (again64 r) ≡ true → Goes (again64 r) after
     right-stop t =
-        let x = told-value _ _ l mid lo tl in
-        let w = told-stop _ _ r after ro t in
-        rw (← x .1 .1) (way-stop _ _ (w .0) r after (ap₂ (both b) (x .0) (w .1 .0)) (w .1 .1))
+        let x = told-value _ _ l mid lo fl tl in
+        let w = told-stop _ _ r after ro fr t in
+        rw (← x .1 .1 .0) (way-stop _ _ (w .0) (again64 r) after (ap₂ (both b) (x .0) (w .1 .0)) (w .1 .1))
 
-    pub both-value : (v : ℤ) (o : ℕ) → ltZ (pos 2147483647) r ≡ false → SFits w64 v → v ≡ packed (applyOp o (again l) (again r)) → o ≡ b → Goes (again64 v) after
+    pub both-value : (v : ℤ) (o : ℕ) → ltZ (pos 2147483647) (again64 r) ≡ false → SFits w64 v → v ≡ packed (applyOp o (again (again64 l)) (again (again64 r)))
+        → o ≡ b → Goes (again64 v) after
     both-value v o t fv p oo =
-        let x = told-value _ _ l mid lo tl in
-        let y = told-value _ _ r after ro t in
-        rw (← x .1 .1, x .0, y .0, ← oo)
+        let x = told-value _ _ l mid lo fl tl in
+        let y = told-value _ _ r after ro fr t in
+        rw (← x .1 .1 .0, x .0, y .0, ← oo)
         (record {
-          answer = toZ-ofZ fv ∙ rw (toZ-ofZ (x .1 .0), toZ-ofZ (y .1 .0)) at p ∙ packed-worth (applyOp o l r);
+          answer = toZ-ofZ fv ∙ rw (x .1 .1 .1, y .1 .1 .1) at p ∙ packed-worth (applyOp o l r);
           range = worth-fits (applyOp o l r) (apply-fits o l r (x .1 .0) (y .1 .0));
-          place = at-end (worthOf (applyOp o l r)) after _ (y .1 .1);
+          place = at-end (worthOf (applyOp o l r)) after _ (y .1 .1 .0);
         })
 
--- ---- `value`
+pub ruleset operateds = (left-stop, right-stop, both-value)
+
+-- ---- `value` and `compound`
 module _ (A : List ℕ) (C : List ℤ) (s : List ℕ) (at d : ℕ) where
   abbrev Runs : ℤ → ℕ → Type 0
   Runs r after = OnTheWay (worthAt A C (upTo 32768 d s at)) (upTo 32768 d s at .next) r after
@@ -276,29 +260,33 @@ module _ (A : List ℕ) (C : List ℤ) (s : List ℕ) (at d : ℕ) where
     unfolding eval
     value-read r after e f o = rw (upto-read 32768 s at near tag tg d nz e) (way-on _ _ r after f o)
 
-    pub value-bin : (r : ℤ) (after : ℕ) → 2 ≤ tag → (tag ≡ 2 → ⊥) → SFits w64 r
+    pub value-bin : (r : ℤ) (after : ℕ) → 2 ≤ getD s at 0 → (tag ≡ 2 → ⊥) → SFits w64 r
         → OnTheWay (bothAt A C (getD s (at + 1) 0) (upTo 32768 (d - 1) s (at + 2)) (upTo 32768 (d - 1) s (upTo 32768 (d - 1) s (at + 2) .next)))
         (upTo 32768 (d - 1) s (upTo 32768 (d - 1) s (at + 2) .next) .next) r after
         → Runs (again64 r) after
     unfolding eval
     value-bin r after big n2 f o = rw (upto-bin 32768 s at near tag tg d nz (λ e. omega arith) (λ e. omega arith) n2) (way-on _ _ r after f o)
 
-pub ruleset values = (value-none, value-out, value-leaf, value-read, value-bin)
+    pub value-compound : (r : ℤ) (after : ℕ) → SFits w64 r → Runs r after → Runs (again64 r) after
+    value-compound r after f o = way-on _ _ r after f o
+
+pub ruleset values = (value-none, value-out, value-leaf, value-compound)
+
+pub ruleset compounds = (value-read, value-bin)
 
 -- ---- `amount`: a refusal puts the position back
-module _ (A : List ℕ) (C : List ℤ) (s : List ℕ) (at : ℕ) (r : ℤ) (after : ℕ) (o : OnTheWay (worthAt A C (upTo 32768 16 s at)) (upTo 32768 16 s at .next) r after) where
-  abbrev Says : ℕ → Type 0
-  Says p = WorthSays A C at (upTo 32768 16 s at) r p
+module _ (A : List ℕ) (C : List ℤ) (g : Got) (r : ℤ) (after : ℕ) (o : OnTheWay (worthAt A C g) (g .next) r after) (f : SFits w64 r) where
+  pub says-stop : (at : ℕ) → ltZ (pos 2147483647) (again64 r) ≡ true → WorthSays A C at g (again64 r) at
+  says-stop at t =
+      let s = told-stop (worthAt A C g) (g .next) r after o f t in
+      record { answer = toZ-ofZ f ∙ o .answer; range = o .range; place = sym (ap (λ (w : Worth). movedTo w at (g .next)) (s .1 .0)) }
 
-  pub says-stop : ltZ (pos 2147483647) r ≡ true → Says at
-  says-stop t =
-      let w = told-stop _ _ r after o t in
-      record { answer = o .answer; range = o .range; place = sym (ap (λ (w : Worth). movedTo w at (upTo 32768 16 s at .next)) (w .1 .0)) }
+  pub says-value : (at : ℕ) → ltZ (pos 2147483647) (again64 r) ≡ false → WorthSays A C at g (again64 r) after
+  says-value at t =
+      let s = told-value (worthAt A C g) (g .next) r after o f t in
+      record { answer = toZ-ofZ f ∙ o .answer; range = o .range; place = s .1 .1 .0 ∙ sym (ap (λ (w : Worth). movedTo w at (g .next)) (s .0)) }
 
-  pub says-value : ltZ (pos 2147483647) r ≡ false → Says after
-  says-value t =
-      let w = told-value _ _ r after o t in
-      record { answer = o .answer; range = o .range; place = w .1 .1 ∙ sym (ap (λ (w : Worth). movedTo w at (upTo 32768 16 s at .next)) (w .0)) }
+pub ruleset amounts = (says-stop, says-value)
 
 -- ---- what the packed number means
 pub unpacked-packed : (w : Worth) → InCell w → unpacked (packedWorth w) ≡ w

@@ -86,12 +86,6 @@ pub record LeafSays (s : List ℕ) (at : ℕ) (cells : List ℤ) (r : ℤ) (afte
   pub answer : r ≡ leafOf s at cells
   pub place : after ≡ leafEnd s at
 
--- ---- `simple`: where the answer is yes, a constant or scalar stands at `at` and is read at that depth
-pub record Simple (s : List ℕ) (at depth : ℕ) (r : Bool) : Type 0 where
-  pub deep : r ≡ true → depth ≡ 0 → ⊥
-  pub near : r ≡ true → at < 32768
-  pub stands : r ≡ true → getD s at 0 < 2
-
 -- ---- `compares`: where the answer is yes, a comparison stands at `at` whose left side is a constant or scalar
 pub record Compares (s : List ℕ) (at : ℕ) (r : Bool) : Type 0 where
   pub near : r ≡ true → at + 7 < 32768

@@ -1,7 +1,7 @@
 // What an expression is worth in a store: document 01, 'Values'. The bytes are a program's, checked or not: nothing is read from 32,768 on,
 // nor more than 16 deep.
 ghost use mathlib.Core.Path.{_≡_};
-ghost use Prim.Native.Nat.{_+_, _<_};
+ghost use Prim.Native.Nat.{_+_, _<_, _≤_};
 ghost use lib.IntN.{pos};
 ghost use lib.ListN.{getD};
 ghost use Rattle.codes.specs.Codes.{word16};
@@ -9,7 +9,7 @@ ghost use Rattle.codes.specs.Numbers.{cellAt};
 ghost use Rattle.values.specs.Values.{applyOp};
 ghost use Rattle.expr.specs.Tree.{worthOf};
 ghost use Rattle.expr.specs.Bytes.{upTo};
-ghost use Rattle.evaluate.specs.Answers.{arraysOf, entryOf, LeafSays, worthAt, readAt, bothAt, OnTheWay, WorthSays, Simple, Packed, Verdict, truthOf, comparisons, Compares};
+ghost use Rattle.evaluate.specs.Answers.{arraysOf, entryOf, LeafSays, worthAt, readAt, bothAt, OnTheWay, WorthSays, Packed, Verdict, truthOf, comparisons, Compares};
 
 // Where the bytes of a program end at the latest.
 const ROOM: usize = 32768;
@@ -104,23 +104,9 @@ fn leaf(bytes: &[u8; 32784], at: &mut usize, cells: &[i32; 2048]) -> i32
     cell(cells, two(bytes, p + 1))
 }
 
-// Whether a constant or scalar stands at `at`, where so much depth is left.
-fn simple(bytes: &[u8; 32784], at: usize, depth: usize) -> bool
-    ensures { λ r. ⌜ Simple (now (bytes .entry)) at depth r ⌝ }
-{
-    if depth == 0 {
-        return false;
-    }
-    if ROOM <= at {
-        return false;
-    }
-    one(bytes, at) < 2
-}
-
 // What the expression at `*at`, at most so deep, is worth; where that is a value, `*at` is moved behind it.
-// The three that follow call each other: `value` gives one level less to `read` and `operated`, which evaluate at what they are given, so
-// that what falls at every call is twice the depth for `value` and one more than that for the two.
-// Where an operand is a constant or scalar, as nearly every one is, they ask `leaf` and need no call.
+// The four that follow call each other, and the depth falls by one from an expression to what stands inside it. This one is small, so that
+// it is copied to where an operand is evaluated: a constant or scalar, as nearly every operand is, needs no call.
 fn value(
     bytes: &[u8; 32784],
     at: &mut usize,
@@ -136,11 +122,24 @@ fn value(
     if ROOM <= *at {
         return 0;
     }
-    let tag = one(bytes, *at);
-    if tag < 2 {
+    if one(bytes, *at) < 2 {
         return leaf(bytes, at, cells) as i64;
     }
-    if tag == 2 {
+    compound(bytes, at, cells, arrays, depth)
+}
+
+// The same of an array read or an operator.
+fn compound(
+    bytes: &[u8; 32784],
+    at: &mut usize,
+    cells: &[i32; 2048],
+    arrays: &[u16; 32],
+    depth: usize,
+) -> i64
+    requires { ⌜ (depth ≡ 0 → ⊥) × ((now at < 32768) × (2 ≤ getD (now bytes) (now at) 0)) ⌝ }
+    ensures { λ r. ⌜ OnTheWay (worthAt (now (arrays .entry)) (now (cells .entry)) (upTo 32768 depth (now (bytes .entry)) (now (at .entry)))) (upTo 32768 depth (now (bytes .entry)) (now (at .entry)) .next) r (now (at .exit)) ⌝ }
+{
+    if one(bytes, *at) == 2 {
         return read(bytes, at, cells, arrays, depth - 1);
     }
     operated(bytes, at, cells, arrays, depth - 1)
@@ -159,11 +158,7 @@ fn read(
 {
     let a = two(bytes, *at + 1);
     *at = *at + 3;
-    let i = if simple(bytes, *at, depth) {
-        leaf(bytes, at, cells) as i64
-    } else {
-        value(bytes, at, cells, arrays, depth)
-    };
+    let i = value(bytes, at, cells, arrays, depth);
     if i > MOST {
         return i;
     }
@@ -186,19 +181,11 @@ fn operated(
 {
     let o = one(bytes, *at + 1) as u8;
     *at = *at + 2;
-    let l = if simple(bytes, *at, depth) {
-        leaf(bytes, at, cells) as i64
-    } else {
-        value(bytes, at, cells, arrays, depth)
-    };
+    let l = value(bytes, at, cells, arrays, depth);
     if l > MOST {
         return l;
     }
-    let r = if simple(bytes, *at, depth) {
-        leaf(bytes, at, cells) as i64
-    } else {
-        value(bytes, at, cells, arrays, depth)
-    };
+    let r = value(bytes, at, cells, arrays, depth);
     if r > MOST {
         return r;
     }
@@ -211,11 +198,7 @@ pub fn amount(bytes: &[u8; 32784], at: &mut usize, cells: &[i32; 2048], arrays: 
     ensures { λ r. ⌜ WorthSays (now (arrays .entry)) (now (cells .entry)) (now (at .entry)) (upTo 32768 16 (now (bytes .entry)) (now (at .entry))) r (now (at .exit)) ⌝ }
 {
     let start = *at;
-    let r = if simple(bytes, *at, DEPTH) {
-        leaf(bytes, at, cells) as i64
-    } else {
-        value(bytes, at, cells, arrays, DEPTH)
-    };
+    let r = value(bytes, at, cells, arrays, DEPTH);
     if r > MOST {
         *at = start;
     }
