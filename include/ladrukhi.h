@@ -23,7 +23,7 @@
 extern "C" {
 #endif
 
-#define LADRUKHI_VERSION 1           /* goes up with every change of what stands in this file */
+#define LADRUKHI_VERSION 1           /* goes up with every change of what this file declares */
 
 #define LADRUKHI_PROGRAM_BYTES 32768 /* a program file has at most so many */
 #define LADRUKHI_FRAMES 1104         /* a place has at most so many */
@@ -73,7 +73,7 @@ enum ladrukhi_frame {
 struct ladrukhi_place {
     uint8_t direction;                /* LADRUKHI_DOWN or LADRUKHI_UP; another does not fit (21) */
     uint16_t a;                       /* label of the record left */
-    uint16_t b;                       /* label of the record that the next step executes */
+    uint16_t b;                       /* label of the record that a step forward executes; a step back executes a */
     size_t count;                     /* frames in use */
     uint16_t kinds[LADRUKHI_FRAMES];  /* enum ladrukhi_frame; slots from count on hold 0 */
     uint16_t labels[LADRUKHI_FRAMES]; /* label of the IF, FROM, CALL or UNCALL of the frame in the same slot; likewise */

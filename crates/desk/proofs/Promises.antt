@@ -1,7 +1,7 @@
 -- What the promises say of a session that is lent.
---     step-kept                                          a step of the desk that is refused leaves the session "untouched to the last field"
+--     step-kept                                          a step of the desk that is refused leaves the session as it was, to the last field
 --     wrong-count-step, wrong-count-run, wrong-count-save
---                                                        "A count other than the program's cell count, over 2,048 too, is 20", leaves the session, and writes nothing
+--                                                        of an accepted program a count other than its cell count, over 2,048 too, is 20, leaves the session, and writes nothing
 use Prim.Native.Nat.{ℕ, _≤_}
 use mathlib.Core.List.{List}
 use mathlib.Core.Path.{_≡_, refl, sym, ap, _∙_}

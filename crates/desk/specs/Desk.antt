@@ -74,7 +74,7 @@ pub data BeginSays (f : List ℕ) (s : Session) (d : ℕ) (m : Outcome) : Type 0
   begun : {t : Tree} → Accepts f t → m ≡ made (numbers 0 0 0) (laid s (held (start t (direction (upward d)))) (cells t) (replicate (cells t) (pos 0)))
       → BeginSays f s d m
 
--- "Session .. calls check the program first, then 22 (reading), 20, 21": what is refused in opening saved bytes, which are malformed where
+-- "Session .. calls .. check the program first, then 22 (reading), 20, 21": what is refused in opening saved bytes, which are malformed where
 -- they are the file of no place and store.
 pub data OpenBefore (f bytes : List ℕ) : ℕ → ℕ → Type 0 where
   program : {n k : ℕ} → Says f (fault n k) → OpenBefore f bytes n k

@@ -102,7 +102,7 @@ counting-accepted = accepts 2 (counting .main) [] (omega arith) (omega arith) (o
 abbrev last : Place
 last = record { a = 7; b = 8; d = down; frames = [] }
 
--- "steps 12 stop 30, at 7 8 down, cell 0 3, cell 1 3", of "at most 1,000,000 steps"
+-- `steps 12 stop 30`, `at 7 8 down`, `cell 0 3`, `cell 1 3`, of "at most 1,000,000 steps"
 counting-run : run counting 1000000 (start counting down) (pos 0 ∷ pos 0 ∷ []) ≡ record { steps = 12; place = last; store = pos 3 ∷ pos 3 ∷ []; stop = because atEnd }
 unfolding runBy step executes after find bind evaluated holds cellOf assigned startsFrom recordsOf recordsP recordsS edgesS edgesP kind eval applyOp wrap
 counting-run = run-longer (step counting) 13 1000000 (start counting down) (pos 0 ∷ pos 0 ∷ []) _ atEnd (omega arith) refl refl

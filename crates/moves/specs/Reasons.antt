@@ -7,7 +7,7 @@ use mathlib.Core.Path.{_≡_}
 use lib.ListN.{getD}
 use lib.IntN.{ℤ, pos, negsuc}
 use Rattle.values.specs.Values.{isTrue}
-use Rattle.expr.specs.Tree.{Expr, read, bin, Fault, byZero, badIndex as outside, value, eval}
+use Rattle.expr.specs.Tree.{Expr, read, bin, Fault, byZero, badIndex as beyond, value, eval}
 use Rattle.records.specs.Records.{cell, entry, Record, begin, end, assign, if, fi, from, until, call, uncall}
 use Rattle.order.specs.Trees.{Tree}
 use Rattle.moves.specs.Labels.{at}
@@ -24,7 +24,7 @@ Misses t a (negsuc i) = Unit {0}
 -- "zero divisor in `/` or `%`", operators 4 and 5. A value is one that `eval` gives.
 pub data Stops (t : Tree) (σ : Store) : Expr → Fault → Type 0 where
   in-read : {a : ℕ} {i : Expr} {f : Fault} → Stops t σ i f → Stops t σ (read a i) f
-  misses : {a : ℕ} {i : Expr} {v : ℤ} → eval (layout t) σ i ≡ value v → Misses t a v → Stops t σ (read a i) outside
+  misses : {a : ℕ} {i : Expr} {v : ℤ} → eval (layout t) σ i ≡ value v → Misses t a v → Stops t σ (read a i) beyond
   in-left : {o : ℕ} {l r : Expr} {f : Fault} → Stops t σ l f → Stops t σ (bin o l r) f
   in-right : {o : ℕ} {l r : Expr} {x : ℤ} {f : Fault} → eval (layout t) σ l ≡ value x → Stops t σ r f → Stops t σ (bin o l r) f
   divides : {o : ℕ} {l r : Expr} {x : ℤ} → (o ≡ 4) ⊎ (o ≡ 5) → eval (layout t) σ l ≡ value x → eval (layout t) σ r ≡ value (pos 0) → Stops t σ (bin o l r) byZero
@@ -58,9 +58,10 @@ pub data Meets (t : Tree) (σ : Store) (s2 : Bool) (fs : List Frame) (ρ : Recor
   outside-false : (e : Expr) → ρ ≡ going d (from e) (until e) → s2 ≡ false → Truth t σ e false → Meets t σ s2 fs ρ d wrongValue
   again-true : (e : Expr) → ρ ≡ going d (from e) (until e) → s2 ≡ true → Truth t σ e true → Meets t σ s2 fs ρ d wrongValue
   by-zero : Faults t σ ρ byZero → Meets t σ s2 fs ρ d zeroDivisor
-  no-entry : Faults t σ ρ outside → Meets t σ s2 fs ρ d badIndex
+  no-entry : Faults t σ ρ beyond → Meets t σ s2 fs ρ d badIndex
   -- 34: "a 65th call"
   deep : {q : ℕ} → (ρ ≡ call q) ⊎ (ρ ≡ uncall q) → calls fs ≡ 64 → Meets t σ s2 fs ρ d tooDeep
 
+-- That `again` and `head` tell rightly whether one comes from s2 is no matter of belief: else the opposite step would not restore the frames.
 abbrev pub Condition : Tree → Place → Store → Reason → Type 0
 Condition t p σ r = Meets t σ (again (head t (p .b) (p .d)) (p .frames)) (p .frames) (at t (p .b)) (p .d) r

@@ -9,7 +9,7 @@ use lib.IntN.{ℤ, pos, negsuc, _+ℤ_, _-ℤ_}
 use mir.Syntax.{w32}
 use mir.Val.{SFits}
 use Rattle.values.specs.Values.{wrap, xorZ, isTrue}
-use Rattle.expr.specs.Tree.{Expr, Arrays, Fault, byZero, badIndex as outside, faultNumber, Worth, value, stop, eval}
+use Rattle.expr.specs.Tree.{Expr, Arrays, Fault, byZero, badIndex as beyond, faultNumber, Worth, value, stop, eval}
 use Rattle.records.specs.Records.{Target, cell, entry}
 use Rattle.order.specs.Trees.{Tree, cells}
 use Rattle.moves.specs.Places.{Dir, going}
@@ -22,7 +22,7 @@ abbrev pub number : Reason → ℕ
 number atEnd = 30
 number wrongValue = 31
 number zeroDivisor = faultNumber byZero
-number badIndex = faultNumber outside
+number badIndex = faultNumber beyond
 number tooDeep = 34
 
 -- What is answered, or the reason why it is not.
@@ -54,7 +54,7 @@ layout t = record { starts = startsFrom (t .scalars) (t .lengths); lengths = t .
 -- The value of an expression, and its truth; what stops an evaluation is a reason.
 abbrev pub reasonOf : Fault → Reason
 reasonOf byZero = zeroDivisor
-reasonOf outside = badIndex
+reasonOf beyond = badIndex
 
 abbrev pub answered : Worth → Answer ℤ
 answered (value v) = ok v

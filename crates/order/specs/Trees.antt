@@ -21,7 +21,7 @@ mutual
     one : Stmt → Block
     _then_ : Stmt → Block → Block
 
--- "NAMES once, then one or more procedures BEGIN s END. Procedure 0 is the main body."
+-- "NAMES once, then one or more procedures BEGIN s END. Procedure 0 is the main body .."
 pub record Tree : Type 0 where
   pub scalars : ℕ
   pub lengths : List ℕ
@@ -72,7 +72,8 @@ pub record Ordered (rs : List Record) (t : Tree) : Type 0 where
 abbrev pub Viable : List Record → Type 0
 Viable rs = (further : List Record) × (t : Tree) × Ordered (rs ++ further) t
 
--- 6: "the first record after which no order of further records is valid, or the record count where the file stops too soon"
+-- 6: "the first record after which no order of further records is valid (file, record and procedure limits set aside), or the record count
+-- where the file stops too soon"
 pub data Misplaced (rs : List Record) : ℕ → Type 0 where
   no-order : {k : ℕ} → k < length rs → Viable (take k rs) → (Viable (take (suc k) rs) → ⊥) → Misplaced rs k
   too-soon : Viable rs → ((t : Tree) → Ordered rs t → ⊥) → Misplaced rs (length rs)

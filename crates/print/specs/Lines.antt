@@ -19,10 +19,10 @@ pub record Text (b : List ℕ) (ws : List (List ℕ)) (c : List ℕ) (n : ℕ) :
 unfoldable pub pair : List ℕ → ℕ → List ℕ → ℕ → List ℕ → List (List ℕ)
 pair first m second n end = first ∷ decimal m ∷ second ∷ decimal n ∷ end ∷ []
 
--- "1 to 8 carry their record in every call": `refused N record R`; the other numbers have none: `refused N`
 abbrev pub refused : List ℕ
 refused = 114 ∷ 101 ∷ 102 ∷ 117 ∷ 115 ∷ 101 ∷ 100 ∷ 32 ∷ []
 
+-- "1 to 8 carry their record in every call": `refused N record R`; the other numbers have none: `refused N`
 abbrev pub refusedLine : ℕ → ℕ → List (List ℕ)
 refusedLine n k =
     cond (ltb n 9) (pair refused n (32 ∷ 114 ∷ 101 ∷ 99 ∷ 111 ∷ 114 ∷ 100 ∷ 32 ∷ []) k (10 ∷ [])) (refused ∷ decimal n ∷ (10 ∷ []) ∷ [])

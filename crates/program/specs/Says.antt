@@ -10,7 +10,7 @@ use Rattle.order.specs.Trees.{Tree, recordsOf, procedures, cells, Ordered, Misp
 use Rattle.program.specs.declared.Checked.{Checked}
 use Rattle.program.specs.declared.Checked.the-variants.{Accepted, Refused}
 
--- "The answer is the number and the first record at fault. An accepted file answers its counts of records, procedures and cells."
+-- "The answer is the number and the first record at fault; .. An accepted file answers its counts of records, procedures and cells."
 -- The document's number and values: 0 where nothing is refused, and 0 for what the answer does not have.
 pub record Given : Type 0 where
   pub number : ℕ

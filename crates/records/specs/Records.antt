@@ -73,7 +73,7 @@ holding k e = record { kind = k; body = encode e; formed = Plain e; there = λ v
 abbrev pub calling : ℕ → ℕ → Row
 calling k q = record { kind = k; body = bytes16 q; formed = q < 2 ^ 16; there = λ v a p. ltb 0 q && ltb q p; free = true }
 
--- NAMES: "u16 V scalars, u16 A arrays, A lengths u16". SET: "u8 operator, u8 target, u16 number, for an array its index expression, then the expression".
+-- NAMES: "u16 V scalars, u16 A arrays, A lengths u16". SET: "u8 operator .., u8 target .., u16 number, for an array its index expression, then the expression".
 abbrev pub row : Record → Row
 row (names v ls) =
     record { kind = 1; body = flatMap bytes16 (v ∷ length ls ∷ ls); formed = Every (_< 2 ^ 16) (v ∷ length ls ∷ ls); there = λ v a p. true; free = true }
@@ -118,7 +118,7 @@ unfoldable pub sum : List ℕ → ℕ
 sum [] = 0
 sum (n ∷ ns) = n + sum ns
 
--- "Sizes: V 0 to 64, A 0 to 16, array length 1 to 1,024, cells at most 2,048, records at most 1,024, procedures 1 to 64":
+-- "Sizes: V 0 to 64, A 0 to 16, array length 1 to 1,024, cells .. at most 2,048, records at most 1,024, procedures 1 to 64":
 -- what a record is asked that has k records and b BEGINs before it.
 pub record InSize (k b : ℕ) (r : Record) : Type 0 where
   pub records : k < 1024

@@ -14,7 +14,7 @@ use Rattle.machine.specs.Answers.{Gives}
 use Rattle.print.specs.Zeros.{noughts}
 use Rattle.print.specs.Lines.{Text, refusedLine, stepsLine, atLine, cellLines}
 
--- "Its first line is steps made and reason; the second a, b and direction; then each nonzero cell, number and value, ascending."
+-- "Its first line is steps made and reason; the second a, b and direction (`down` or `up`); then each nonzero cell, number and value, ascending."
 unfoldable pub reportLines : ℕ → ℕ → ℕ → ℕ → ℕ → List ℤ → List (List ℕ)
 reportLines steps reason a b d store = stepsLine steps reason ++ (atLine a b d ++ cellLines 0 store)
 

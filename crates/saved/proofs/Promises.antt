@@ -1,7 +1,7 @@
 -- The promises about session files, of the code's own answers as their contracts say them. Assumes nothing.
 --     saved-reads-back   what a save wrote reads back as the same place and store
 --     files-differ       two saves of one file are of one place and store: different ones have different files
---     one-file           one place and store has exactly one file that reads as it
+--     one-file           one place and store has at most one file that reads as it (that there is one: saved-reads-back)
 --     read-then-saved    what is read and saved again is the same bytes
 --     saved-beyond       the bytes after the written ones keep their values; where a save is refused, all of them
 use Prim.Native.Nat.{ℕ, _^_, _≤_, _<_}

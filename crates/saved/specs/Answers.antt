@@ -13,7 +13,7 @@ use Rattle.session.specs.Session.{encode, Reads}
 use Rattle.machine.specs.declared.Told.{Told}
 use Rattle.machine.specs.Answers.{Gives, Before, Ready}
 
--- "Session .. calls check the program first, then 22 (reading), 20, 21": the number, and the record. The bytes s are malformed where they
+-- "Session .. calls .. check the program first, then 22 (reading), 20, 21": the number, and the record. The bytes s are malformed where they
 -- are the file of no place and store; 20 is asked of the cells in the file and of the store σ that is lent for them.
 pub data ReadBefore (f s : List ℕ) (σ : Store) : ℕ → ℕ → Type 0 where
   program : {n k : ℕ} → Says f (fault n k) → ReadBefore f s σ n k
