@@ -1,12 +1,12 @@
 -- A SET read from the bytes, for any bytes and any arrays. Nothing here has to be believed: machine/proofs/Sets joins it to `assigned`.
-use Prim.Native.Nat.{ℕ, _+_}
+use Prim.Native.Nat.{ℕ, _+_, _^_}
 use mathlib.Core.List.{List}
 use mathlib.Core.Bool.{cond}
 use mathlib.Core.Path.{_≡_}
 use lib.ListN.{getD, set as put}
 use lib.Dec.{eqb}
 use lib.IntN.{ℤ, pos}
-use Rattle.expr.specs.Tree.{Arrays, Worth}
+use Rattle.expr.specs.Tree.{Arrays, byZero, badIndex as beyond, faultNumber, Worth}
 use Rattle.evaluate.specs.Answers.{arraysOf, worthAt, entryOf}
 use Rattle.evaluate.specs.declared.Entry.{Entry}
 use Rattle.evaluate.specs.declared.Entry.the-variants.{At, Outside}
@@ -18,8 +18,9 @@ use Rattle.ways.specs.Looks.{operatorAt}
 abbrev pub worked : Store → ℕ → ℕ → ℤ → Store
 worked σ c o v = put σ c (applied o (getD σ c (pos 0)) v)
 
+-- the document's number of a refusal that is told in one number with the values
 abbrev pub faultOf : ℕ → ℕ
-faultOf n = cond (eqb n 4294967328) 32 33
+faultOf n = cond (eqb n (2 ^ 32 + faultNumber byZero)) (faultNumber byZero) (faultNumber beyond)
 
 -- the cell of an entry, or that its index is refused
 abbrev pub asAnswer : Entry → Answer ℕ
