@@ -12,7 +12,7 @@
    them); a run that is stopped after some steps leaves the session where it stopped.
 
    Each call checks the program anew and copies the session. So a step takes about 10 microseconds on a small program and about
-   170 on one of 32,768 bytes; a run checks and copies once, whatever n is. */
+   200 on one of 32,768 bytes; a run checks and copies once, whatever n is. */
 #ifndef LADRUKHI_H
 #define LADRUKHI_H
 
