@@ -16,7 +16,7 @@ mod set;
 
 // Where a step stands: the way of the record met; and in one number, which stays in a register, how many frames are calls (4,096
 // for each) and how many there are.
-#[derive(Drop)]
+#[derive(Clone, Copy)]
 pub struct Spot {
     pub way: usize,
     pub depth: usize,

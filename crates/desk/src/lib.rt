@@ -14,7 +14,7 @@ const CELLS: usize = 2048;
 
 // A place, and the store in the first `count` cells.
 #[repr(C)]
-#[derive(Drop)]
+#[derive(Clone, Copy)]
 pub struct Session {
     pub place: Place,
     pub count: usize,

@@ -13,7 +13,7 @@ mod copies;
 mod walk;
 
 // Whether it was done; else the document's number, and the record (0 where there is none).
-#[derive(Drop)]
+#[derive(Clone, Copy)]
 pub enum Told {
     Done,
     Refused(u8, usize),

@@ -5,7 +5,7 @@ ghost use Rattle.place.specs.Slots.{Plain, Decides};
 ghost use Rattle.place.specs.Methods.{zeros, blank_of, turned_of, moved_of, pushed_of, popped_of, changed_of, top_at, top_in};
 
 #[repr(C)]
-#[derive(Drop)]
+#[derive(Clone, Copy)]
 pub struct Place {
     pub direction: u8,
     pub a: u16,

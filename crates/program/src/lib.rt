@@ -10,7 +10,7 @@ use records::Walked;
 pub mod arrays;
 
 // What the check answers: the counts of records, procedures and cells, or the number of the refusal and the record at fault.
-#[derive(Drop)]
+#[derive(Clone, Copy)]
 pub enum Checked {
     Accepted(usize, usize, usize),
     Refused(u8, usize),
