@@ -1,4 +1,6 @@
 // The program `bench`: check, start, step, back, set and show on session files, one command a call, as the second program has them.
+#![tactic(auto)]
+
 use command::asked;
 use shell::perform;
 

@@ -1,4 +1,6 @@
 // Reads program files, one a line in hexadecimal, and writes `accepted R P C` or `refused N R` for each: the check held to the second program's answers.
+#![tactic(auto)]
+
 ghost use Rattle.std.specs.Prelude.{◌≡◌, length};
 ghost use Rattle.words.specs.Zeros.{Filled};
 

@@ -1,4 +1,6 @@
 // Checks the program file on standard input again and again, for the benchmark speed/check to time; `second recheck` does and writes the same.
+#![tactic(auto)]
+
 ghost use Rattle.std.specs.Prelude.{◌≤◌};
 
 use libc::{STDIN_FILENO, STDOUT_FILENO};

@@ -1,4 +1,6 @@
 // Numbers as bytes: u16 and i32, little-endian, read from and written to slices. Every function is total.
+#![tactic(auto)]
+
 ghost use Rattle.std.specs.Prelude.{◌≡◌, ◌+◌, ◌*◌, ◌^◌, ◌<◌, get_or};
 ghost use Rattle.codes.specs.Codes.{bytes16, cell_bytes, word16};
 ghost use Rattle.codes.specs.Numbers.{word32, cell_at, written};

@@ -1,6 +1,8 @@
 // What a step does, decided from the record, the innermost frame and the store; never from the whole place.
 // Every public function is total. File and store are arrays of fixed size: each is one pointer, and no length goes with it.
 // A way is a label and a direction in one number (the crate `ways`). By it a run looks up all that it needs.
+#![tactic(auto)]
+
 ghost use Rattle.std.specs.Prelude.{◌≡◌, ◌+◌, ◌<◌, ◌≤◌, get_or};
 ghost use Rattle.evaluate.specs.Answers.{worth_at, truth_of};
 ghost use Rattle.expr.specs.Bytes.{up_to};

@@ -1,4 +1,6 @@
 // The desk: one current session, lent and moved; and what C calls. Every function is total.
+#![tactic(auto)]
+
 ghost use Rattle.std.specs.Prelude.{◌≡◌, ◌≤◌, pos, length, replicate};
 ghost use Rattle.moves.specs.Step.{step, step_back};
 ghost use Rattle.moves.specs.Runs.{run, run_back};

@@ -1,5 +1,7 @@
 // What an expression is worth in a store: document 01, 'Values'. The bytes are a program's, checked or not: nothing is read from 32,768 on,
 // nor more than 16 deep.
+#![tactic(auto)]
+
 ghost use Rattle.std.specs.Prelude.{◌≡◌, ◌+◌, ◌<◌, ◌≤◌, pos, get_or};
 ghost use Rattle.codes.specs.Codes.{word16};
 ghost use Rattle.codes.specs.Numbers.{cell_at};

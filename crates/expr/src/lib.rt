@@ -1,4 +1,6 @@
 // Prefix-coded expressions: where one ends, whether it mentions a name, whether its names are there.
+#![tactic(auto)]
+
 ghost use Rattle.std.specs.Prelude.{◌≡◌, ◌||◌, ◌&&◌};
 ghost use Rattle.expr.specs.Agreement.{is_scalar, is_array};
 ghost use Rattle.expr.specs.Bytes.{parse, whole};

@@ -1,5 +1,7 @@
 // Files and standard output for the programs: reading to the end, replacing a file whole, and complaints as the second program words them.
 // What a call of C reads or writes no contract can say; those here say what can be said.
+#![tactic(auto)]
+
 mod reason;
 
 ghost use Rattle.std.specs.Prelude.{◌≡◌, ◌≤◌, length};

@@ -1,4 +1,6 @@
 // Does a lent place fit the program (refusal 21)? From the table of a checked file, in time linear in the frames. Every function is total.
+#![tactic(auto)]
+
 ghost use Rattle.std.specs.Prelude.{◌≡◌, ◌<◌};
 ghost use Rattle.fits.specs.Fits.{slot_at, entry_at, number_of, lost, start_of, construct_of, call_kind, callee_of, call_of, outward, ends, chained, gap_is, gap_fits, edge_fits, fits_in};
 

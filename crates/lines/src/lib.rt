@@ -1,4 +1,6 @@
 // The streams of the second program: command lines that set and move one program, place and store, and an answer line for each that moves, reads or saves.
+#![tactic(auto)]
+
 ghost use Rattle.std.specs.Prelude.{◌≡◌};
 ghost use Rattle.lines.specs.Line.{line_count};
 

@@ -1,4 +1,6 @@
 // The machine: the two starts, a step forward and back, a run of n steps forward and back. Every function is total.
+#![tactic(auto)]
+
 ghost use Rattle.std.specs.Prelude.{◌≡◌, ◌≤◌};
 ghost use Rattle.moves.specs.Step.{step as forward, step_back};
 ghost use Rattle.moves.specs.Runs.{run as running, run_back};

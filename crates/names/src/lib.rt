@@ -1,4 +1,6 @@
 // Refusals 7 and 8: the first record that names what is not there, and the first SET that names its own target.
+#![tactic(auto)]
+
 ghost use Rattle.std.specs.Prelude.{◌≡◌, ◌+◌, ◌<◌, length};
 ghost use Rattle.expr.specs.Tree.{known};
 ghost use Rattle.records.specs.Walk.{offsets};

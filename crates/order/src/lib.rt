@@ -1,4 +1,6 @@
 // Refusal 6: whether the records of a file stand in a valid order, by the kinds alone.
+#![tactic(auto)]
+
 ghost use Rattle.std.specs.Prelude.{◌≤◌, ◌<◌, ◌≡◌, []};
 ghost use Rattle.order.specs.Order.{at, named, begun, ended, passed, opened, turned, closed, next, order_of};
 ghost use Rattle.order.specs.Stack.{state_of, Keeps};

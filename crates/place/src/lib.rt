@@ -1,5 +1,7 @@
 // A place as a struct by value, with the methods that turn it round, push, pop and hand the next place back.
 // Slot 0 is the outermost frame, so that a push and a pop touch one slot; unused slots hold 0. Every function is total.
+#![tactic(auto)]
+
 ghost use Rattle.std.specs.Prelude.{◌≡◌, ℕ, ◌≤◌, ◌<◌, get_or};
 ghost use Rattle.place.specs.Slots.{Plain, Decides};
 ghost use Rattle.place.specs.Methods.{zeros, blank_of, turned_of, moved_of, pushed_of, popped_of, changed_of, top_at, top_in};

@@ -1,4 +1,6 @@
 // The lines that `run` and `bench` print, written into a lent buffer at a position; each answers the position after what it wrote.
+#![tactic(auto)]
+
 ghost use Rattle.std.specs.Prelude.{◌≡◌, min};
 ghost use Rattle.print.specs.Rows.{put_all, after_all};
 ghost use Rattle.print.specs.Lines.{pair, refused_line, steps_line, at_line, frame_line, frame_lines, cell_line, shown, cell_lines, accepted_line};

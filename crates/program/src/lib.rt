@@ -1,4 +1,6 @@
 // Program files: the check that answers every file, and the table of its arrays.
+#![tactic(auto)]
+
 ghost use Rattle.std.specs.Prelude.{◌≡◌};
 ghost use Rattle.program.specs.Check.{cells_of, named, after_own, after_there, after_order, after_walk};
 ghost use Rattle.program.specs.Says.{given, Says};

@@ -1,4 +1,6 @@
 // The records of a program file: the walk over them, and what is first wrong with one of them, refusals 2 to 5.
+#![tactic(auto)]
+
 pub mod reading;
 pub mod walk;
 

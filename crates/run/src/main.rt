@@ -1,4 +1,6 @@
 // The program `run`: a program file on standard input, from its start down on zeros, at most 1,000,000 steps.
+#![tactic(auto)]
+
 ghost use Rattle.std.specs.Prelude.{◌≡◌};
 ghost use Rattle.print.specs.Rows.{put_all, after_all};
 ghost use Rattle.print.specs.Zeros.{noughts};

@@ -1,5 +1,7 @@
 // Runs the program file on standard input down from the start on zeros, until it stops, for the benchmark speed/run to time.
 // The answer goes to standard output, the clock before and after the run to standard error: no test can hold a time.
+#![tactic(auto)]
+
 use libc::{STDERR_FILENO, STDIN_FILENO, STDOUT_FILENO};
 use machine::Told;
 use place::Place;

@@ -1,4 +1,6 @@
 // Sessions of a program: read from a file, and saved as one. Both functions are total, and pass over the file a fixed number of times.
+#![tactic(auto)]
+
 ghost use Rattle.std.specs.Prelude.{◌≡◌};
 ghost use Rattle.saved.specs.Answers.{ReadSays, SaveSays};
 ghost use Rattle.saved.specs.Whole.{Counted, refusing, unsaved};

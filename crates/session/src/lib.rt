@@ -1,4 +1,6 @@
 // Session files: a place and its store as bytes, and back. Every public function is total.
+#![tactic(auto)]
+
 ghost use Rattle.std.specs.Prelude.{◌≡◌, ◌++◌, ◌+◌, ◌*◌, ◌≤◌, length, drop};
 ghost use Rattle.std.proofs.lemmas.List.Edits.{sets};
 ghost use Rattle.codes.specs.Codes.{bytes16, word16};

@@ -1,4 +1,6 @@
 // The stream of sessions: reading and saving held to the second program's answers, between moves.
+#![tactic(auto)]
+
 use libc::STDIN_FILENO;
 
 // More bytes than all the cases have.

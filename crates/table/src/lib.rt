@@ -1,5 +1,7 @@
 // The table of a file's records: what a step asks of a label, found once for each call. specs/Table.antt has its sections.
 // The first pass is in kinds.rt; here are the second and third: the partners of each record, and the labels that one comes to from it.
+#![tactic(auto)]
+
 ghost use Rattle.std.specs.Prelude.{◌≡◌, suc, pred, ◌<◌, ◌≤◌};
 ghost use Rattle.table.specs.Table.{share, shared, from_above, from_below, join, joined, table_of};
 

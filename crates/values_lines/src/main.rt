@@ -1,4 +1,6 @@
 // Reads lines `OP LEFT RIGHT` and writes `value V` or `zero` for each: the operators held to the second program's answers.
+#![tactic(auto)]
+
 ghost use Rattle.std.specs.Prelude.{◌≤◌, length};
 
 use libc::{STDIN_FILENO, STDOUT_FILENO};

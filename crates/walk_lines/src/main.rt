@@ -1,4 +1,6 @@
 // The stream of walks: the machine held to the second program's answers.
+#![tactic(auto)]
+
 use libc::STDIN_FILENO;
 
 // More bytes than all the cases have.

@@ -1,5 +1,7 @@
 // What a run asks of the table of a file: the neighbours of a record, the gates of a procedure, and the map of all that (map.rt).
 // A way is a label and a direction in one number: the label, and 1,024 more upwards. Every public function is total.
+#![tactic(auto)]
+
 ghost use Rattle.std.specs.Prelude.{◌≡◌, ◌+◌, ◌<◌};
 ghost use Rattle.ways.specs.Looks.{look_in, other_of, along_of, gate_of, operator_at, way_to, label_in, side_in};
 

@@ -1,4 +1,6 @@
 // Numbers as text: written into a lent buffer at a position, and read at one; bytes in hexadecimal; lines. What the programs print and read with.
+#![tactic(auto)]
+
 ghost use Rattle.std.specs.Prelude.{◌≡◌, ◌+◌, ◌*◌, ◌-◌, ◌≤◌, ◌<◌, min, leb, length, get_or, drop, set};
 ghost use Rattle.std.proofs.lemmas.List.Edits.{sets};
 ghost use Rattle.words.specs.Words.{put, after, last_digit, decimal_by, decimal, signed_decimal, limit, digit_count, digit_value, signed_next, signed_value, hex_digit, hex_byte, hex_bytes, Counts, nearest, next_line};

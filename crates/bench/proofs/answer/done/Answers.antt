@@ -1,0 +1,19 @@
+-- `bench::answer::done` meets its contract. Assumes nothing.
+use mir.Syntax.{w32}
+use mir.Facts.{to_z-of_z}
+use borrow.Author.Rules.{rules}
+use Rattle.bench.specs.Answers as answers
+use Rattle.bench.proofs.Answering.{deed, sound_few}
+use Rattle.bench.proofs.answer.done.Goals as goal
+
+pub shown-requires : goal.shown-requires
+shown-requires c = sound_few c.requires
+
+pub returns-in-Move : goal.returns-in-Move
+returns-in-Move c = deed c.in-Move.is.1 c.moved.ensures
+
+pub returns-in-Set : goal.returns-in-Set
+returns-in-Set c = deed c.in-Set.is.1 (rw (to_z-of_z {w = w32} {z = c.in-Set.is.0.1.0} (record { sfits = c.known_told-in-Set-1.given.1.0.1 })) at (c.set.ensures c.args.text.now))
+
+pub returns-in-Show : goal.returns-in-Show
+returns-in-Show c = deed c.in-Show.is.1 (answers.shows (c.shown.ensures c.args.buffer.now))

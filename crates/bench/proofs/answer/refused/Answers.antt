@@ -1,0 +1,8 @@
+-- `bench::answer::refused` meets its contract. Assumes nothing.
+use mathlib.Core.Path.{refl}
+use borrow.Author.Rules.{rules}
+use Rattle.bench.proofs.Answering.{tells_refused}
+use Rattle.bench.proofs.answer.refused.Goals as goal
+
+pub returns : goal.returns
+returns c = λ b. record { none = refl; kept = refl; lines = tells_refused c.args.text.now c.Put-refused.new.0 c.Put-refused.result c.args.number c.args.label (search rules) c.Put-refused.ensures; right = refl }

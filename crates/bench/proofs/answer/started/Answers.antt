@@ -1,0 +1,17 @@
+-- `bench::answer::started` meets its contract. Assumes nothing.
+use borrow.Author.Rules.{rules}
+use Rattle.program.proofs.CheckSays.{refused_of_lem}
+use Rattle.program.proofs.Few.{accepted_counts}
+use Rattle.bench.specs.Answers as answers
+use Rattle.bench.proofs.Answering.{started_room}
+use Rattle.bench.proofs.answer.started.Goals as goal
+
+pub begun-requires : goal.begun-requires
+begun-requires c = (_, _, accepted_counts _ c.check.result c.check.ensures _ _ _ c.in-Accepted.is.1)
+
+pub returns-in-Refused : goal.returns-in-Refused
+returns-in-Refused c = let x = answers.Starts.refused (refused_of_lem _ c.check.result _ _ c.check.ensures c.in-Refused.is.1) (c.refused.ensures c.args.buffer.now) in
+    (x, started_room x)
+
+pub returns-in-Accepted : goal.returns-in-Accepted
+returns-in-Accepted c = (c.begun.ensures, started_room c.begun.ensures)

@@ -1,0 +1,10 @@
+-- `decide::Spot::again` meets its contract: the cases of `DecideCases`. Assumes nothing.
+use borrow.Author.Rules.{rules}
+use Rattle.decide.proofs.DecideCases.{acts}
+use Rattle.decide.proofs.Spot.again.Goals as goal
+
+pub returns-then-kind-eq3 : goal.returns-then-kind-eq3
+returns-then-kind-eq3 c = search acts
+
+pub returns : goal.returns
+returns c = search acts

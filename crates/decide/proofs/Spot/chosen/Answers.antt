@@ -1,0 +1,10 @@
+-- `decide::Spot::chosen` meets its contract: the cases of `DecideCases`. Assumes nothing.
+use borrow.Author.Rules.{rules}
+use Rattle.decide.proofs.DecideCases.{acts}
+use Rattle.decide.proofs.Spot.chosen.Goals as goal
+
+pub returns-then-v-eq0 : goal.returns-then-v-eq0
+returns-then-v-eq0 c = search acts
+
+pub returns : goal.returns
+returns c = search acts

@@ -1,0 +1,20 @@
+-- `desk::saving` meets its contract: the cells in use are lent. Assumes nothing.
+use mathlib.Core.Path.{◌≡◌, sym}
+use native.Mathlib.Omega.{arith}
+use lib.ListN.{length}
+use lib.Seq.{length-take-le}
+use borrow.Author.Rules.{rules}
+use Rattle.desk.proofs.Cases.{saving_over, saving_within}
+use Rattle.desk.proofs.saving.Goals as goal
+
+pub returns-then-count-gt-CELLS : goal.returns-then-count-gt-CELLS
+returns-then-count-gt-CELLS c = saving_over _ _ _ _ c.if-count-gt-CELLS.true c.over-o.ensures
+
+pub slice_bounds-cells-end : goal.slice_bounds-cells-end
+slice_bounds-cells-end c = let e : length c.args.session.cells ≡ 2048 = search rules in omega (arith, e)
+
+pub slice_bounds-save-end : goal.slice_bounds-save-end
+slice_bounds-save-end c = let s = c.args.session in let e : length s.cells-1 ≡ 2048 = search rules in sym (length-take-le s.count s.cells-1 (omega (arith, e)))
+
+pub returns : goal.returns
+returns c = saving_within _ _ _ _ _ _ _ c.if-count-gt-CELLS.false c.save-r.ensures c.in_numbers.ensures

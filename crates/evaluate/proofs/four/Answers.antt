@@ -1,0 +1,7 @@
+-- `evaluate::four` meets its contract: two u16. Assumes nothing.
+use borrow.Author.Rules.{rules}
+use Rattle.evaluate.proofs.Values.{four_is}
+use Rattle.evaluate.proofs.four.Goals as goal
+
+pub returns : goal.returns
+returns c = search four_is

@@ -1,0 +1,15 @@
+-- `fits::chained` meets its contract. The loop's invariant: what is answered is what the slots that are left answer from where one stands.
+-- The measure is the number of slots that are left. Assumes nothing.
+use mathlib.Core.Path.{◌≡◌, refl, sym, ◌∙◌}
+use Prim.Native.Nat.{◌<◌}
+use native.Mathlib.Omega.{arith}
+use borrow.Author.Rules.{rules}
+use Rattle.fits.specs.Fits.{chained}
+use Rattle.fits.proofs.Cases.{chained_none, chained_more}
+use Rattle.fits.proofs.chained.Given as goal
+
+abbrev pub invariant-loop-n : goal.invariant-loop-n
+invariant-loop-n l = chained l.file l.table l.records l.place.kinds l.place.labels l.initial.n l.initial.at ≡ chained l.file l.table l.records l.place.kinds l.place.labels l.n l.at
+
+abbrev pub decreases-loop-n : goal.decreases-loop-n
+decreases-loop-n l = l.n

@@ -1,0 +1,10 @@
+-- `fits::construct` meets its contract: the cases of `Cases`. Assumes nothing.
+use borrow.Author.Rules.{rules}
+use Rattle.fits.proofs.Cases.{answers}
+use Rattle.fits.proofs.construct.Goals as goal
+
+pub returns-then-wide-number : goal.returns-then-wide-number
+returns-then-wide-number c = search answers
+
+pub returns : goal.returns
+returns c = search answers

@@ -1,0 +1,16 @@
+-- `order::closed` meets its contract: the cases of `OrderCases`. Assumes nothing.
+use borrow.Author.Rules.{rules}
+use Rattle.order.proofs.OrderCases.{keeping}
+use Rattle.order.proofs.closed.Goals as goal
+
+pub returns-then-o-ne4 : goal.returns-then-o-ne4
+returns-then-o-ne4 c = search keeping
+
+pub returns-then-count-eq0 : goal.returns-then-count-eq0
+returns-then-count-eq0 c = search keeping
+
+pub returns-then-kinds-count : goal.returns-then-kinds-count
+returns-then-kinds-count c = search keeping
+
+pub returns : goal.returns
+returns c = search keeping

@@ -1,0 +1,13 @@
+-- `place::Place::popped` meets its contract: the cases of `Cases`. Assumes nothing.
+use borrow.Author.Rules.{rules}
+use Rattle.place.proofs.Cases.{answers}
+use Rattle.place.proofs.Place.popped.Goals as goal
+
+pub returns-then-n-eq0 : goal.returns-then-n-eq0
+returns-then-n-eq0 c = search answers
+
+pub returns-then-n-gt1104 : goal.returns-then-n-gt1104
+returns-then-n-gt1104 c = search answers
+
+pub returns : goal.returns
+returns c = search answers

@@ -1,0 +1,13 @@
+-- `program::check` meets its contract: its answers are the cases of `CheckCases`, and those are what `Says` says.
+use native.Mathlib.Omega.{arith}
+use Rattle.program.specs.declared.Checked.TheVariants.{Refused}
+use Rattle.program.proofs.CheckCases.{answers}
+use Rattle.program.proofs.CheckSays.{says_of}
+use borrow.Author.Rules.{rules}
+use Rattle.program.proofs.check.Goals as goal
+
+pub returns-then-file-gt32768 : goal.returns-then-file-gt32768
+returns-then-file-gt32768 c = says_of c.args.file.now (λ i. omega (arith, c.shared_slice_known-1.given i)) (Refused 1 0) (search answers)
+
+pub returns : goal.returns
+returns c = says_of c.args.file.now (λ i. omega (arith, c.shared_slice_known-1.given i)) c.after_walk.result (search answers)

@@ -1,0 +1,7 @@
+-- `session::put_head` meets its contract: three pairs. Assumes nothing.
+use borrow.Author.Rules.{rules}
+use Rattle.session.proofs.Writing.{headed}
+use Rattle.session.proofs.put_head.Goals as goal
+
+pub returns : goal.returns
+returns c = let a = c.args in headed a.buf-1.now c.put_pair.new.0 c.put_pair-2.new.0 _ a.d a.a a.b a.n c.ranges.d.fits c.put_pair.ensures c.put_pair-2.ensures c.put_pair-3.ensures

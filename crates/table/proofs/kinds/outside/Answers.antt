@@ -1,0 +1,7 @@
+-- `table::kinds::outside` meets its contract: the cases of `Stores`. Assumes nothing.
+use borrow.Author.Rules.{rules}
+use Rattle.table.proofs.Stores.{stores}
+use Rattle.table.proofs.kinds.outside.Goals as goal
+
+pub returns : goal.returns
+returns c = search stores

@@ -1,0 +1,7 @@
+-- `table::table` meets its contract: the three passes after one another. Assumes nothing.
+use borrow.Author.Rules.{rules}
+use Rattle.table.proofs.Loops.{table_whole}
+use Rattle.table.proofs.table.Goals as goal
+
+pub returns : goal.returns
+returns c = search table_whole

@@ -1,0 +1,10 @@
+-- `values_lines::answers` is safe and ends: each turn goes past a line. Assumes nothing.
+use mathlib.Core.Path.{◌≡◌}
+use Prim.Native.Nat.{◌≤◌, ◌-◌}
+use lib.ListN.{length}
+use borrow.Author.Rules.{rules}
+use Rattle.words.proofs.Lines.{falls}
+use Rattle.values_lines.proofs.answers.Goals as goal
+
+pub loop-at-smaller : goal.loop-at-smaller
+loop-at-smaller c = search (rules, falls)

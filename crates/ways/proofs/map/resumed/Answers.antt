@@ -1,0 +1,10 @@
+-- `ways::map::resumed` meets its contract: the cases of `MapCases`. Assumes nothing.
+use borrow.Author.Rules.{rules}
+use Rattle.ways.proofs.MapCases.{onwards}
+use Rattle.ways.proofs.map.resumed.Goals as goal
+
+pub returns-then-part-eq12 : goal.returns-then-part-eq12
+returns-then-part-eq12 c = search onwards
+
+pub returns : goal.returns
+returns c = search onwards

@@ -1,0 +1,7 @@
+-- `ways::part` meets its contract: the cases of `LookCases`. Assumes nothing.
+use borrow.Author.Rules.{rules}
+use Rattle.ways.proofs.LookCases.{smalls}
+use Rattle.ways.proofs.part.Goals as goal
+
+pub returns : goal.returns
+returns c = search smalls
