@@ -7,7 +7,7 @@ use native.Mathlib.Nat.{add_comm}
 use native.Mathlib.Omega.{arith}
 use native.Mathlib.Decide.{ℕ_discrete}
 use borrow.Author.Tests.{lt-ltb, le-ltb, ltb-true, eq-eqb, ne_eqb}
-use lib.Dec.{eqb, ltb}
+use lib.Dec.{ltb}
 use lib.IntN.{ℤ, pos, negsuc}
 use lib.ListN.{get_or, take, drop, length-take, get_or-eq_default}
 use lib.Seq.{get_or-take, get_or-drop}

@@ -3,7 +3,7 @@ use Rattle.std.proofs.Common.{◌≡◌, ℕ, zero, suc, ◌+◌, ◌-◌, ◌*�
 use native.Mathlib.Decide.{ℕ_discrete}
 use lib.IntN.{sub_ℕ}
 use lib.Signed.{mag, nat_abs-le, non_neg, lt_z}
-use lib.Arith.{lt_of_le-ne, bin_ind, digits_div, digits_mod}
+use lib.Arith.{bin_ind, digits_div, digits_mod}
 use lib.Bits.{bit_xor, bit_and, differ, and_mask, xor_step, xor_self}
 use mir.Syntax.{Width}
 use mir.Val.{bits, hbits, bool_byte}
@@ -29,15 +29,6 @@ no_below n h = omega arith
 
 pub not_below : {X : Type 0} (n : ℕ) → ltb n 0 ≡ true → X
 not_below n e = absurd (no_below n (ltb-true n 0 e))
-
--- what a `match` on 0 to k - 1 leaves to its last arm
-abbrev pub Others : ℕ → ℕ → Type 0
-Others zero n = Unit {0}
-Others (suc k) n = Others k n × (n ≡ k → ⊥)
-
-pub beyond : (k n : ℕ) → Others k n → k ≤ n
-beyond zero n h = omega arith
-beyond (suc k) n h = lt_of_le-ne (beyond k n h.0) (λ e. h.1 (sym e))
 
 -- ---- what a local holds, and an i32 that is cast to an i64
 

@@ -1,5 +1,4 @@
 -- `codes::bits` meets its contract: the cases of `Cases`. Assumes nothing.
-use borrow.Author.Rules.{rules}
 use Rattle.codes.proofs.Cases.{reading}
 use Rattle.codes.proofs.bits.Goals as goal
 

@@ -1,5 +1,4 @@
 -- `codes::byte` meets its contract: the cases of `Cases`. Assumes nothing.
-use borrow.Author.Rules.{rules}
 use Rattle.codes.proofs.Cases.{reading}
 use Rattle.codes.proofs.byte.Goals as goal
 

@@ -1,5 +1,4 @@
 -- `codes::long` meets its contract: the cases of `Cases`. Assumes nothing.
-use borrow.Author.Rules.{rules}
 use Rattle.codes.proofs.Cases.{reading}
 use Rattle.codes.proofs.long.Goals as goal
 

@@ -1,5 +1,4 @@
 -- `codes::put_long` meets its contract: the cases of `Cases`. Assumes nothing.
-use borrow.Author.Rules.{rules}
 use native.Mathlib.Omega.{arith}
 use lib.ListN.{length-set}
 use Rattle.codes.proofs.Cases.{writing}

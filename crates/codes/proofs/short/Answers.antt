@@ -1,5 +1,4 @@
 -- `codes::short` meets its contract: the cases of `Cases`. Assumes nothing.
-use borrow.Author.Rules.{rules}
 use native.Mathlib.Omega.{arith}
 use Rattle.codes.proofs.Cases.{reading, short_cut}
 use Rattle.codes.proofs.short.Goals as goal

@@ -1,5 +1,4 @@
 -- `evaluate::amount` meets its contract: a refusal puts the position back, the cases of `Values`. Assumes nothing.
-use borrow.Author.Rules.{rules}
 use Rattle.evaluate.proofs.Values.{amounts}
 use Rattle.evaluate.proofs.amount.Goals as goal
 

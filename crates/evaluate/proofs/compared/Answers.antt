@@ -1,5 +1,4 @@
 -- `evaluate::compared` meets its contract: the cases of `Truths`. Assumes nothing.
-use borrow.Author.Rules.{rules}
 use Rattle.evaluate.proofs.Truths.{comparing}
 use Rattle.evaluate.proofs.compared.Goals as goal
 

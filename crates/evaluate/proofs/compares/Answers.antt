@@ -1,5 +1,4 @@
 -- `evaluate::compares` meets its contract: the cases of `Truths`. Assumes nothing.
-use borrow.Author.Rules.{rules}
 use Rattle.evaluate.proofs.Truths.{comparison}
 use Rattle.evaluate.proofs.compares.Goals as goal
 

@@ -1,5 +1,4 @@
 -- `evaluate::entry_of` meets its contract: the cases of `Values`. Assumes nothing.
-use borrow.Author.Rules.{rules}
 use Rattle.evaluate.proofs.Values.{entries}
 use Rattle.evaluate.proofs.entry_of.Goals as goal
 

@@ -1,5 +1,4 @@
 -- `evaluate::four` meets its contract: two u16. Assumes nothing.
-use borrow.Author.Rules.{rules}
 use Rattle.evaluate.proofs.Values.{four_is}
 use Rattle.evaluate.proofs.four.Goals as goal
 

@@ -1,5 +1,4 @@
 -- `evaluate::leaf` meets its contract: the cases of `Values`. Assumes nothing.
-use borrow.Author.Rules.{rules}
 use Rattle.evaluate.proofs.Values.{leaves}
 use Rattle.evaluate.proofs.leaf.Goals as goal
 

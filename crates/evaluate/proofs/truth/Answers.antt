@@ -1,5 +1,4 @@
 -- `evaluate::truth` meets its contract: the cases of `Truths`. Assumes nothing.
-use borrow.Author.Rules.{rules}
 use native.Mathlib.Omega.{arith}
 use Rattle.evaluate.proofs.Truths.{truths, compares_near, compares_operator, mid_near}
 use Rattle.evaluate.proofs.truth.Goals as goal

@@ -1,5 +1,4 @@
 -- `evaluate::verdict` meets its contract: the cases of `Truths`. Assumes nothing.
-use borrow.Author.Rules.{rules}
 use Rattle.evaluate.proofs.Truths.{verdicts, verdict_cast}
 use Rattle.evaluate.proofs.verdict.Goals as goal
 

@@ -1,5 +1,4 @@
 -- `expr::is_array` meets its contract. Assumes nothing.
-use borrow.Author.Rules.{rules}
 use Rattle.expr.proofs.is_array.Goals as goal
 
 pub returns-then-array : goal.returns-then-array

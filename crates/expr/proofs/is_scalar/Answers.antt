@@ -1,5 +1,4 @@
 -- `expr::is_scalar` meets its contract. Assumes nothing.
-use borrow.Author.Rules.{rules}
 use Rattle.expr.proofs.is_scalar.Goals as goal
 
 pub returns-else-array : goal.returns-else-array

@@ -1,7 +1,6 @@
 -- `order::opened` meets its contract: the cases of `OrderCases`. Assumes nothing.
 use borrow.Author.Rules.{rules}
 use native.Mathlib.Omega.{arith}
-use lib.ListN.{length-map}
 use Rattle.order.proofs.OrderCases.{keeping, opened_full, opened_yes}
 use Rattle.order.proofs.opened.Goals as goal
 
@@ -15,4 +14,4 @@ pub returns-then-count-ge16 : goal.returns-then-count-ge16
 returns-then-count-ge16 c = opened_full c.args.o c.bare-then-count-ge16.result c.args.frame (omega arith) (omega arith) (omega arith) c.bare-then-count-ge16.ensures
 
 pub returns : goal.returns
-returns c = opened_yes c.args.o c.args.frame (simp length-map at c.well_formed.0.1.1.0.1.0.1) (omega arith) (omega arith) (omega arith)
+returns c = opened_yes c.args.o c.args.frame (omega arith) (omega arith) (omega arith) (omega arith)

@@ -1,7 +1,6 @@
 -- `order::turned` meets its contract: the cases of `OrderCases`. Assumes nothing.
 use borrow.Author.Rules.{rules}
 use native.Mathlib.Omega.{arith}
-use lib.ListN.{length-map}
 use Rattle.order.proofs.OrderCases.{keeping, turned_yes}
 use Rattle.order.proofs.turned.Goals as goal
 
@@ -15,4 +14,4 @@ pub returns-then-kinds-count : goal.returns-then-kinds-count
 returns-then-kinds-count c = search keeping
 
 pub returns : goal.returns
-returns c = turned_yes c.args.o c.args.frame (simp length-map at c.well_formed.0.1.1.0.1.0.1) (omega arith) (omega arith) (omega arith) (omega arith)
+returns c = turned_yes c.args.o c.args.frame (omega arith) (omega arith) (omega arith) (omega arith) (omega arith)

@@ -7,7 +7,7 @@ use borrow.Author.Rules.{rules}
 use Rattle.program.proofs.check.Goals as goal
 
 pub returns-then-file-gt32768 : goal.returns-then-file-gt32768
-returns-then-file-gt32768 c = says_of c.args.file.now (λ i. omega (arith, c.shared_slice_known-1.given i)) (Refused 1 0) (search answers)
+returns-then-file-gt32768 c = says_of c.args.file.now (λ i. grind arith) (Refused 1 0) (search answers)
 
 pub returns : goal.returns
-returns c = says_of c.args.file.now (λ i. omega (arith, c.shared_slice_known-1.given i)) c.after_walk.result (search answers)
+returns c = says_of c.args.file.now (λ i. grind arith) c.after_walk.result (search answers)

@@ -8,7 +8,7 @@ pub returns-then-not-well_formed : goal.returns-then-not-well_formed
 returns-then-not-well_formed c = search readings
 
 pub overflow_sub-result : goal.overflow_sub-result
-overflow_sub-result c = let y = right _ _ c.if-not-well_formed.false-raw c.well-formed-2.ensures in omega (arith, y.head.room)
+overflow_sub-result c = let y = right _ _ c.if-not-well_formed.false-raw c.well_formed-2.ensures in omega (arith, y.head.room)
 
 pub returns : goal.returns
 returns c = search readings

@@ -8,7 +8,7 @@ pub returns-then-not-well_formed : goal.returns-then-not-well_formed
 returns-then-not-well_formed c = search readings
 
 pub placed-requires : goal.placed-requires
-placed-requires c = let y = right _ _ c.if-not-well_formed.false-raw c.well-formed-2.ensures in omega (arith, y.head.count)
+placed-requires c = let y = right _ _ c.if-not-well_formed.false-raw c.well_formed-2.ensures in omega (arith, y.head.count)
 
 pub returns : goal.returns
 returns c = search readings

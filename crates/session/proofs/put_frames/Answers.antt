@@ -21,8 +21,8 @@ loop-m-preserved c = let ks = c.args.kinds.now in
       (
         omega arith,
         (
-          kept l.buf-1 _ l.p (bytes16 (get_or ks (l.m - 1) 0) ++ bytes16 (get_or ls (l.m - 1) 0)) c.put_pair.ensures ∙ l.invariant.1.1.0,
-          frames_go ks ls _ l.buf-1 l.m l.p l.invariant.1.1.1 (omega arith) _ c.put_pair.ensures,
+          kept l.buf _ l.p (bytes16 (get_or ks (l.m - 1) 0) ++ bytes16 (get_or ls (l.m - 1) 0)) c.put_pair.ensures ∙ l.invariant.1.1.0,
+          frames_go ks ls _ l.buf l.m l.p l.invariant.1.1.1 (omega arith) _ c.put_pair.ensures,
         ),
       ),
     )

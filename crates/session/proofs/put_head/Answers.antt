@@ -4,4 +4,4 @@ use Rattle.session.proofs.Writing.{headed}
 use Rattle.session.proofs.put_head.Goals as goal
 
 pub returns : goal.returns
-returns c = let a = c.args in headed a.buf-1.now c.put_pair.new.0 c.put_pair-2.new.0 _ a.d a.a a.b a.n c.ranges.d.fits c.put_pair.ensures c.put_pair-2.ensures c.put_pair-3.ensures
+returns c = let a = c.args in headed a.buf.now c.put_pair.new.buf c.put_pair-2.new.buf _ a.d a.a a.b a.n c.ranges.d.fits c.put_pair.ensures c.put_pair-2.ensures c.put_pair-3.ensures

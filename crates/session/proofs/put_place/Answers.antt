@@ -7,4 +7,4 @@ use Rattle.session.proofs.Writing.{on}
 use Rattle.session.proofs.put_place.Goals as goal
 
 pub returns : goal.returns
-returns c = let a = c.args in let h = a.h in on a.buf-1.now c.put_head.new.0 _ 0 12 (encode_head h.direction h.a h.b h.count) (slot_bytes h.count h.kinds-1 h.labels-1) refl c.put_head.ensures c.put_frames.ensures
+returns c = let a = c.args in let h = a.h in on a.buf.now c.put_head.new.buf _ 0 12 (encode_head h.direction h.a h.b h.count) (slot_bytes h.count h.kinds h.labels) refl c.put_head.ensures c.put_frames.ensures

@@ -26,4 +26,4 @@ pub put_store-requires : goal.put_store-requires
 put_store-requires c = omega (arith, few_cells c.args.h c.args.store.now c.args.buf.now c.plain.result c.plain.ensures c.if-not-plain.false-raw c.size_of-size.result c.size_of-size.ensures c.if-size-eq0.false, size_sum c.args.h c.args.store.now c.args.buf.now c.plain.result c.plain.ensures c.if-not-plain.false-raw c.size_of-size.result c.size_of-size.ensures c.if-size-eq0.false)
 
 pub returns : goal.returns
-returns c = saved_file c.args.h c.args.store.now c.args.buf.now c.plain.result c.plain.ensures c.if-not-plain.false-raw c.size_of-size.result c.size_of-size.ensures c.if-size-eq0.false c.if-buf-size.false c.put_place.new.0 _ c.put_place.ensures c.put_store.ensures
+returns c = saved_file c.args.h c.args.store.now c.args.buf.now c.plain.result c.plain.ensures c.if-not-plain.false-raw c.size_of-size.result c.size_of-size.ensures c.if-size-eq0.false c.if-buf-size.false c.put_place.new.buf _ c.put_place.ensures c.put_store.ensures

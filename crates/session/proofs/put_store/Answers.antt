@@ -10,4 +10,4 @@ use Rattle.session.proofs.Writing.{on}
 use Rattle.session.proofs.put_store.Goals as goal
 
 pub returns : goal.returns
-returns c = let a = c.args in on a.buf-1.now c.put_pair.new.0 _ a.at (a.at + 4) (bytes16 (4 + 4 * length a.store.now) ++ bytes16 33) (encode_cells a.store.now) refl c.put_pair.ensures c.put_cells.ensures
+returns c = let a = c.args in on a.buf.now c.put_pair.new.buf _ a.at (a.at + 4) (bytes16 (4 + 4 * length a.store.now) ++ bytes16 33) (encode_cells a.store.now) refl c.put_pair.ensures c.put_cells.ensures

@@ -1,11 +1,11 @@
 -- `values::apply` meets its contract, an arm for each operator. Assumes nothing.
-use Rattle.std.proofs.Common.{◌≡◌, ℕ, ◌^◌, ◌<◌, ◌≤◌, not, ◌&&◌, ◌||◌, get_or, ℤ, ◌+ℤ◌, ◌-ℤ◌, ◌*ℤ◌, ap, ◌∙◌, ap₂, to_z-of_z, w32, w64, SFits, to_z, of_z, rules}
+use Rattle.std.proofs.Common.{◌≡◌, ℕ, ◌^◌, ◌<◌, ◌≤◌, not, ◌&&◌, ◌||◌, get_or, ℤ, ◌+ℤ◌, ◌-ℤ◌, ◌*ℤ◌, ap, ◌∙◌, ap₂, to_z-of_z, w32, w64, SFits, to_z, of_z, arith}
 use lib.ListN.{get_or-eq_default}
 use lib.Signed.{mag, lt_z, le_z}
 use mir.Facts.{Fits-of_z, Fits-and, Fits-or}
 use Rattle.values.specs.Values.{is, wrap, xor_z, floor_div, floor_mod, divided, truth, entries, apply_op}
 use Rattle.values.specs.Packed.{packed}
-use Rattle.values.proofs.Bits.{in32, wide_fits, wide_back, bits_wide, bits_read, bool_is, beyond, bits_true, bits_eq}
+use Rattle.values.proofs.Bits.{in32, wide_fits, wide_back, bits_wide, bits_read, bool_is, bits_true, bits_eq}
 use Rattle.values.proofs.apply.Goals as goal
 
 -- bits of two numbers, whichever operator made them
@@ -92,5 +92,5 @@ pub returns-in-14 : goal.returns-in-14
 returns-in-14 c = arm c.ranges.left c.ranges.right c.in-14.is (bool_is (ap₂ le_z (to_z-of_z c.ranges.left) (to_z-of_z c.ranges.right)))
 
 pub returns-in_default : goal.returns-in_default
-returns-in_default c = let h : 15 ≤ c.args.op = beyond 15 c.args.op c.in_default.in_default-own in
+returns-in_default c = let h : 15 ≤ c.args.op = omega arith in
     other c.ranges.left c.ranges.right h (bool_is (ap₂ le_z (to_z-of_z c.ranges.right) (to_z-of_z c.ranges.left)))

@@ -1,5 +1,5 @@
 -- `values::quotient` meets its contract: 0 and -1 are asked first. Assumes nothing.
-use Rattle.std.proofs.Common.{◌≡◌, pos, ◌-ℤ◌, sym, ap, ◌∙◌, ap₂, to_z-of_z, rules}
+use Rattle.std.proofs.Common.{◌≡◌, pos, ◌-ℤ◌, sym, ap, ◌∙◌, ap₂, to_z-of_z}
 use Rattle.values.specs.Values.{wrap, floor_div}
 use Rattle.values.proofs.Bits.{in32, wide_fits, wide_back}
 use Rattle.values.proofs.Laws.{wrap_in}

@@ -1,5 +1,5 @@
 -- `values::wrapped` meets its contract: it is `wrap`'s own definition. Assumes nothing.
-use Rattle.std.proofs.Common.{ap, ◌∙◌, to_z-of_z, w32, to_z, rules}
+use Rattle.std.proofs.Common.{ap, ◌∙◌, to_z-of_z, w32, to_z}
 use Rattle.values.proofs.Bits.{back32}
 use Rattle.values.specs.Values.{wrap}
 use Rattle.values.specs.Packed.{low32}
