@@ -26,11 +26,11 @@ abbrev Every : Tree → List Record → Type 0
 Every τ [] = Unit {0}
 Every τ (r ∷ rs) = Good τ r × Every τ rs
 
-every : (τ : Tree) (k b : ℕ) (rs : List Record) → FineFrom k b rs → All (there_in τ) rs → All free rs → Every τ rs
+every : (τ : Tree) (rs : List Record) (k b : ℕ) → FineFrom k b rs → All (there_in τ) rs → All free rs → Every τ rs
 unfolding FineFrom
-every τ k b [] f n o = tt
-every τ k b (r ∷ rs) f n o =
-    ((f.0, n 0 (omega arith), o 0 (omega arith)), every τ _ _ rs f.1.1 (λ j h. n (suc j) (omega arith)) (λ j h. o (suc j) (omega arith)))
+every τ [] k b f n o = tt
+every τ (r ∷ rs) k b f n o =
+    ((f.0, n 0 (omega arith), o 0 (omega arith)), every τ rs _ _ f.1.1 (λ j h. n (suc j) (omega arith)) (λ j h. o (suc j) (omega arith)))
 
 module _ (τ : Tree) where
   left : (R S : List Record) → Every τ (R ++ S) → Every τ R
@@ -79,4 +79,4 @@ module _ (τ : Tree) where
 
 pub accepted_wf : {f : List ℕ} {τ : Tree} → Accepts f τ → Wf τ (prog τ)
 unfolding records_of
-accepted_wf {f} {τ} a = fine_wf τ (fine_p τ (procedures τ) (every τ 0 0 (records_of τ) a.rows.fine a.numbers a.owns).1)
+accepted_wf {f} {τ} a = fine_wf τ (fine_p τ (procedures τ) (every τ (records_of τ) 0 0 a.rows.fine a.numbers a.owns).1)

@@ -28,8 +28,8 @@ pub record Tabled (t : Tree) (f tab : List ℕ) : Type 0 where
   pub offset : (x : ℕ) → x < length (records_of t) → get_or tab x 0 ≡ get_or (offsets f) x 0
   pub kinds : (x : ℕ) → x < length (records_of t) → get_or tab (1024 + x) 0 ≡ kind (at t x)
   pub heads : (x : ℕ) → x < length (records_of t) → get_or tab (2048 + x) 0 ≡ head_of ((prog t).at x)
-  pub middles : (x : ℕ) (c : Con) → x < length (records_of t) → PartMut (prog t) c x → get_or tab (3072 + x) 0 ≡ c.m
-  pub tails : (x : ℕ) (c : Con) → x < length (records_of t) → PartMut (prog t) c x → get_or tab (4096 + x) 0 ≡ c.r
+  pub middles : (x : ℕ) (c : Con) → x < length (records_of t) → Part (prog t) c x → get_or tab (3072 + x) 0 ≡ c.m
+  pub tails : (x : ℕ) (c : Con) → x < length (records_of t) → Part (prog t) c x → get_or tab (4096 + x) 0 ≡ c.r
   pub downs : (x : ℕ) → suc x < length (records_of t) → get_or tab (5120 + x) 0 ≡ tip (prog t) x down
   pub ups : (x : ℕ) → 0 < x → x < length (records_of t) → get_or tab (6144 + x) 0 ≡ tip (prog t) (pred x) up
   pub opens : (x : ℕ) → x < length (records_of t) → get_or tab (7168 + x) 0 ≡ open_of ((prog t).encl x)
@@ -45,7 +45,7 @@ module _ (t : Tree) (P : Prog) (n p : ℕ) (G : Facts t P n p) where
   local : (ρ : Rec) (x : ℕ) → P.at x ≡ ρ → Local t P ρ x
   local ρ x e = subst (λ ρ. Local t P ρ x) e (G.wf.here x)
 
-  part_is : (c : Con) (x : ℕ) → PartMut P c x → Its c x
+  part_is : (c : Con) (x : ℕ) → Part P c x → Its c x
   part_is c x (is_if e) = (0, (cond_is t P n p G c (local (if_l c) x e).1, rw e))
   part_is c x (is_else e) = (0, (cond_is t P n p G c (local (else_l c) x e).1, rw e))
   part_is c x (is_fi e) = (0, (cond_is t P n p G c (local (fi_l c) x e).1, rw e))
@@ -54,7 +54,7 @@ module _ (t : Tree) (P : Prog) (n p : ℕ) (G : Facts t P n p) where
   part_is c x (is_until e) = (2, (loop_is t P n p G c (local (until_l c) x e).1, rw e))
 
   module _ (T : List ℕ) (x : ℕ) (K : get_or T (1024 + x) 0 ≡ kind (forget (P.at x))) (H : get_or T (2048 + x) 0 ≡ head_of (P.at x))
-      (R : (c : Con) → PartMut P c x → get_or T (4096 + x) 0 ≡ c.r) where
+      (R : (c : Con) → Part P c x → get_or T (4096 + x) 0 ≡ c.r) where
     kind_is : (ρ : Rec) → P.at x ≡ ρ → get_or T (1024 + x) 0 ≡ kind (forget ρ)
     kind_is ρ e = K ∙ ap (λ ρ. kind (forget ρ)) e
 
@@ -180,10 +180,10 @@ module _ (f : List ℕ) (t : Tree) (A : Accepts f t) where
   heads₂ : (x : ℕ) → x < n → get_or T₂ (2048 + x) 0 ≡ head_of (P.at x)
   heads₂ x h = low₂ (2048 + x) (let b = few x h in omega arith) ∙ F.heads x h
 
-  tails₂ : (x : ℕ) → x < n → (c : Con) → PartMut P c x → get_or T₂ (4096 + x) 0 ≡ c.r
+  tails₂ : (x : ℕ) → x < n → (c : Con) → Part P c x → get_or T₂ (4096 + x) 0 ≡ c.r
   tails₂ x h c k = let i = part_is t P n p G c x k in two.tails.part x i.0 c h i.1.0 i.1.1
 
-  middles₂ : (x : ℕ) → x < n → (c : Con) → PartMut P c x → get_or T₂ (3072 + x) 0 ≡ c.m
+  middles₂ : (x : ℕ) → x < n → (c : Con) → Part P c x → get_or T₂ (3072 + x) 0 ≡ c.m
   middles₂ x h c k = let i = part_is t P n p G c x k in two.middles.part x i.0 c h i.1.0 i.1.1
 
   first_in_lem : (q : ℕ) → q < p → (P.first q < n) × (P.last q < n)

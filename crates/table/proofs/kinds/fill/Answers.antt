@@ -18,7 +18,7 @@ loop-x-preserved c = (
   (omega arith, omega arith),
   (
     omega arith,
-    left_on _ _ _ c.loop-x.x c.loop-x.q c.loop-x.at c.kind_at-kind.result c.next_owner-q.result c.next_at-at.result c.note.new.0 c.enter.new.0
+    left_on _ _ _ c.loop-x.x c.loop-x.q c.loop-x.at c.kind_at-kind.result c.next_owner-q.result c.next_at-at.result c.note.new.table c.enter.new.table
         (omega arith) (omega arith) c.kind_at-kind.ensures.0 c.note.ensures c.enter.ensures c.next_owner-q.ensures.0 c.next_at-at.ensures c.loop-x.invariant.1.1,
   ),
 )
