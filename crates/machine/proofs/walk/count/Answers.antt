@@ -13,8 +13,8 @@ loop-i-init c = (omega arith, omega arith, calls_none _)
 pub loop-i-preserved : goal.loop-i-preserved
 loop-i-preserved c =
     elim c.if-kinds-i-eq4.branch [
-      then-kinds-i-eq4 w ↦ (omega arith, omega arith, w.calls-is ∙ count_call _ _ _ c.loop-i.invariant.2 w.if-kinds-i-eq4.true)
-    | else-kinds-i-eq4 w ↦ (omega arith, omega arith, w.calls-is ∙ count_other _ _ _ c.loop-i.invariant.2 w.if-kinds-i-eq4.false)
+      | then-kinds-i-eq4 w ↦ (omega arith, omega arith, w.calls-is ∙ count_call _ _ _ c.loop-i.invariant.2 w.if-kinds-i-eq4.true)
+      | else-kinds-i-eq4 w ↦ (omega arith, omega arith, w.calls-is ∙ count_other _ _ _ c.loop-i.invariant.2 w.if-kinds-i-eq4.false)
     ]
 
 pub returns : goal.returns
