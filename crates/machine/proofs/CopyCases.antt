@@ -91,7 +91,7 @@ back_is n τ zs σ e h = over_twice τ zs (no_cells n) σ e (omega (arith, lengt
 -- ---- a turn of the loops over cells: the cell read is the cell
 module _ (s d e : List ℤ) (i : ℕ) (fits : mag (get_or s i (pos 0)) < 2 ^ hbits w32) where
   read_cell : to_z w32 (of_z w32 (get_or s i (pos 0))) ≡ get_or s i (pos 0)
-  read_cell = to_z-of_z (record { sfits = fits })
+  read_cell = to_z-of_z {w = w32} (record { sfits = fits })
 
   pub copied_cell : i < length s → i < length d → e ≡ take i s ++ drop i d → set e i (to_z w32 (of_z w32 (get_or s i (pos 0)))) ≡ take (i + 1) s ++ drop (i + 1) d
   copied_cell h k q = rw read_cell (copied s d e i (pos 0) h k q)

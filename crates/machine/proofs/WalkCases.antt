@@ -3,19 +3,20 @@ use mathlib.Core.Path.{◌≡◌, refl, sym, ap, ◌∙◌, subst}
 use mathlib.Core.List.{List}
 use mathlib.Core.Bool.{true, false}
 use lib.Dec.{eqb}
-use Prim.Native.Nat.{ℕ, suc, ◌+◌, ◌-◌, ◌≤◌, ◌<◌}
+use Prim.Native.Nat.{ℕ, suc, ◌+◌, ◌*◌, ◌-◌, ◌≤◌, ◌<◌}
 use native.Mathlib.Numerals.{add-one}
 use native.Mathlib.Omega.{arith}
 use borrow.Author.Tests.{eq-eqb, ne_eqb, le-leb, lt-leb}
 use lib.ListN.{get_or}
+use Rattle.place.specs.declared.Place.{Place as Held}
 use Rattle.moves.specs.Stores.{Store}
 use Rattle.decide.specs.declared.Spot.{Spot}
 use Rattle.decide.specs.declared.Move.{Move}
-use Rattle.ways.specs.Looks.{label_in, side_in}
+use Rattle.ways.specs.Looks.{label_in, side_in, way_to}
 use Rattle.decide.specs.Decide.{put_in}
 use Rattle.decide.specs.Ways.{depth_of, calls_in as calls_by, count_in, Sight, Doing, sight, Ruled, Rules}
 use Rattle.machine.specs.declared.walk.Went.{Went}
-use Rattle.machine.specs.Walk.{calls_in, calls_of, Stand, held_by, ended_in, spot_by, sight_in, Gone, go_of, Goes}
+use Rattle.machine.specs.Walk.{calls_in, calls_of, Stand, stand_of, held_by, ended_in, spot_by, sight_in, Gone, go_of, Goes}
 
 -- ---- counting calls
 module _ (s : List ℕ) (i n : ℕ) (e : n ≡ calls_in s i) where
@@ -50,6 +51,12 @@ stand_at w a d ks ls = record { way = w; a = a; count = count_in d; kinds = ks; 
 
 pub parts : (c n : ℕ) → n < 4096 → (calls_by (depth_of c n) ≡ c) × (count_in (depth_of c n) ≡ n)
 parts c n h = (omega arith, omega arith)
+
+-- a place and its calls, as they are taken apart
+pub given : (h : Held) (c w : ℕ) → h.count ≤ 1104 → w ≡ way_to h.b h.direction → (stand_at w h.a (4096 * c + h.count) h.kinds h.labels ≡ stand_of h) × (calls_by (4096 * c + h.count) ≡ c)
+given h c w k e =
+    let z = parts c h.count (omega arith) in
+    (λ i. record { way = e i; a = h.a; count = z.1 i; kinds = h.kinds; labels = h.labels }, z.0)
 
 stands : (w a d : ℕ) (ks ls : List ℕ) (s : Spot) → s ≡ spot_by w d → sight s ks ls ≡ sight_in (stand_at w a d ks ls) (calls_by d)
 unfolding sight

@@ -1,8 +1,10 @@
 -- What the public functions compute is what Answers says, for every file, struct and store.
 use Prim.Native.Nat.{ℕ, zero, suc, ◌+◌, ◌≤◌}
 use mathlib.Core.Path.{◌≡◌, refl, sym, ap, ◌∙◌, subst}
+use mathlib.Core.Bool.{cond}
+use lib.Dec.{eqb}
 use mathlib.Core.List.{List, [], ◌∷◌, ◌++◌, map, reverse, reverse-cons, append_assoc}
-use lib.ListN.{length, length-map, length-reverse}
+use lib.ListN.{length, get_or, length-map, length-reverse}
 use lib.Seq.{get_or_at}
 use native.Mathlib.Omega.{arith}
 use borrow.Author.Tests.{le-leb}
@@ -47,12 +49,13 @@ calls_are : (fs : List Frame) (r : List ℕ) → calls_in (reverse (map frame_ki
 unfolding calls_in
 calls_are [] r = refl
 calls_are (i ∷ F) r =
-    rw (
-      reverse-cons (frame_kind i) (map frame_kind F),
-      append_assoc (reverse (map frame_kind F)),
-      get_or_at (reverse (map frame_kind F)) (frame_kind i) r 0 (length F) (length-reverse (map frame_kind F) ∙ length-map F frame_kind),
-      calls_are F (frame_kind i ∷ r),
-    )
+    let R = reverse (map frame_kind F) in
+    let s = R ++ (frame_kind i ∷ r) in
+    let e : reverse (map frame_kind (i ∷ F)) ++ r ≡ s = rw (reverse-cons (frame_kind i) (map frame_kind F), append_assoc R) in
+    let g : get_or s (length F) 0 ≡ frame_kind i = get_or_at R (frame_kind i) r 0 (length F) (length-reverse (map frame_kind F) ∙ length-map F frame_kind) in
+    ap (λ (s : List ℕ). calls_in s (suc (length F))) e
+    ∙ (ap (λ (k : ℕ). cond (eqb k 4) (suc (calls_in s (length F))) (calls_in s (length F))) g
+    ∙ ap (λ (n : ℕ). cond (eqb (frame_kind i) 4) (suc n) n) (calls_are F (frame_kind i ∷ r)))
 
 calls_held : (p : Place) → length p.frames ≤ 1104 → calls_of (held p).kinds (held p).count ≡ calls p.frames
 calls_held p h = rw (le-leb (length p.frames) 1104 h) (calls_are p.frames _)

@@ -13,15 +13,13 @@ pub loop-i-init : goal.loop-i-init
 loop-i-init c = (omega arith, refl, refl)
 
 pub loop-i-preserved : goal.loop-i-preserved
-loop-i-preserved c = let f = c.args.cells.now in
+loop-i-preserved c =
+    let f = c.args.cells.now in
     let d = c.args.store.now in
     let l = c.loop-i in
     let h : l.i < 2048 = omega arith in
-    let k : l.i < length d = omega arith in (
-      omega arith,
-      simp length-set l.invariant.1,
-      copied_back f d l.store-1 l.i c.store-1.given 2048 h k l.invariant.2,
-    )
+    let k : l.i < length d = omega arith in
+    (omega arith, simp length-set l.invariant.1, copied_back f d l.store l.i (search rules) 2048 h k l.invariant.2)
 
 pub shape_of-store : goal.shape_of-store
 shape_of-store c = c.loop-i.invariant.1

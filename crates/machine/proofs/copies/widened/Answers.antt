@@ -13,16 +13,14 @@ pub loop-i-init : goal.loop-i-init
 loop-i-init c = (omega arith, sym (ap length c.no_cells-copy.ensures ∙ length_cells 2048), refl)
 
 pub loop-i-preserved : goal.loop-i-preserved
-loop-i-preserved c = let f = c.args.store.now in
+loop-i-preserved c =
+    let f = c.args.store.now in
     let d = c.no_cells-copy.result in
     let l = c.loop-i in
     let q : 2048 ≡ length d = sym (ap length c.no_cells-copy.ensures ∙ length_cells 2048) in
     let h : l.i < length f = omega arith in
-    let k : l.i < length d = omega arith in (
-      omega arith,
-      l.invariant.1 ∙ simp length-set,
-      copied_cell f d l.copy-1 l.i c.copy-1.given h k l.invariant.2,
-    )
+    let k : l.i < length d = omega arith in
+    (omega arith, l.invariant.1 ∙ simp length-set, copied_cell f d l.copy l.i (search rules) h k l.invariant.2)
 
 pub returns : goal.returns
 returns c = let f = c.args.store.now in

@@ -1,10 +1,7 @@
--- `machine::walk::count` meets its contract. The loop's invariant: so many of the slots passed are calls. Assumes nothing.
-use mathlib.Core.Path.{◌≡◌, ap, ◌∙◌}
-use mathlib.Core.Logic.{⊎_elim}
-use Prim.Native.Nat.{ℕ, ◌-◌, ◌≤◌}
-use native.Mathlib.Omega.{arith}
+-- The loop's invariant of `machine::walk::count`: so many of the slots passed are calls. Assumes nothing.
+use mathlib.Core.Path.{◌≡◌}
+use Prim.Native.Nat.{◌-◌, ◌≤◌}
 use Rattle.machine.specs.Walk.{calls_in}
-use Rattle.machine.proofs.WalkCases.{count_call, count_other, calls_none}
 use Rattle.machine.proofs.walk.count.Given as goal
 
 abbrev pub invariant-loop-i : goal.invariant-loop-i
