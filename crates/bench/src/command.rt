@@ -1,5 +1,8 @@
 // The command that the program's words are.
+ghost use Rattle.std.specs.Prelude.{◌≤◌, length};
+
 use crate::number::{Integer, Natural, read_integer, read_natural};
+use std::env::{Env, FillError};
 
 // What is done to a session: a move says whether it goes back, and how many steps; set the cell and its value.
 #[derive(Drop)]
@@ -130,13 +133,44 @@ fn changing(name: &[u8], count: usize, fourth: &[u8], fifth: &[u8]) -> Command {
     Command::Wrong
 }
 
+// The word with that number at the start of the buffer, and its length; a word that is not there, or longer, is read as empty.
+pub(crate) fn word(rt: &impl Env, number: usize, buffer: &mut [u8]) -> usize
+    ensures { result ≤ length buffer.new }
+{
+    match rt.arg(number, buffer) {
+        Ok(size) => size,
+        Err(_) => 0,
+    }
+}
+
+// Whether there is a word with that number.
+fn is_there(rt: &impl Env, number: usize) -> bool {
+    match rt.arg(number, &mut []) {
+        Err(FillError::NotPresent) => false,
+        _ => true,
+    }
+}
+
+// More words than any command has.
+const MANY: usize = 7;
+
+// How many words there are, with the program's own: `MANY` where there are more.
+fn count(rt: &impl Env) -> usize {
+    for number in 0..MANY {
+        if !is_there(rt, number) {
+            return number;
+        }
+    }
+    MANY
+}
+
 // A word that is longer than 32 bytes is read as empty: no command, direction or number is so long.
-pub(crate) fn asked() -> Command {
+pub(crate) fn asked(rt: &impl Env) -> Command {
     let mut name = [0u8; 32];
     let mut fourth = [0u8; 32];
     let mut fifth = [0u8; 32];
-    let i = os::arg(1, &mut name);
-    let j = os::arg(4, &mut fourth);
-    let k = os::arg(5, &mut fifth);
-    named(&name[..i], os::arg_count(), &fourth[..j], &fifth[..k])
+    let i = word(rt, 1, &mut name);
+    let j = word(rt, 4, &mut fourth);
+    let k = word(rt, 5, &mut fifth);
+    named(&name[..i], count(rt), &fourth[..j], &fifth[..k])
 }

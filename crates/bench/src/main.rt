@@ -9,6 +9,6 @@ mod command;
 mod number;
 mod shell;
 
-fn main() {
-    perform(asked());
+fn main(rt: HostRuntime) {
+    perform(&rt, asked(&rt));
 }

@@ -4,8 +4,9 @@
 ghost use Rattle.std.specs.Prelude.{◌≡◌, length};
 ghost use Rattle.words.specs.Zeros.{Filled};
 
-use libc::{STDIN_FILENO, STDOUT_FILENO};
+use files::Got;
 use program::Checked;
+use std::io::Print;
 
 // More bytes than any file of the cases has.
 const ROOM: usize = 33000;
@@ -26,46 +27,51 @@ fn empty_input() -> [u8; ALL]
     [0; ALL]
 }
 
-fn say(word: &[u8]) {
-    io::write_all(STDOUT_FILENO, word);
+fn say(rt: &impl Print, word: &[u8]) {
+    // Nobody is left to tell where standard output is closed.
+    let _ = rt.write_all(word);
 }
 
-fn number(n: usize) {
-    io::print_decimal(STDOUT_FILENO, n as u64);
+fn number(rt: &impl Print, n: usize) {
+    let _ = rt.print(n);
 }
 
-fn tell(answer: Checked) {
+fn tell(rt: &impl Print, answer: Checked) {
     match answer {
         Checked::Accepted(records, procedures, cells) => {
-            say(b"accepted ");
-            number(records);
-            say(b" ");
-            number(procedures);
-            say(b" ");
-            number(cells);
+            say(rt, b"accepted ");
+            number(rt, records);
+            say(rt, b" ");
+            number(rt, procedures);
+            say(rt, b" ");
+            number(rt, cells);
         }
         Checked::Refused(why, record) => {
-            say(b"refused ");
-            number(why as usize);
-            say(b" ");
-            number(record);
+            say(rt, b"refused ");
+            number(rt, why as usize);
+            say(rt, b" ");
+            number(rt, record);
         }
     }
-    say(b"\n");
+    say(rt, b"\n");
 }
 
-fn answers(s: &[u8]) {
+fn answers(rt: &impl Print, s: &[u8]) {
     let mut file = empty_file();
     let mut at: usize = 0;
     while at < s.len() {
         let n = words::hex_bytes(s, at, &mut file);
-        tell(program::check(&file[..n]));
+        tell(rt, program::check(&file[..n]));
         at = words::next_line(s, at);
     }
 }
 
-fn main() {
+fn main(rt: HostRuntime) {
     let mut input = empty_input();
-    let n = io::read_full(STDIN_FILENO, &mut input);
-    answers(&input[..n]);
+    match files::read_open(&mut rt.stdin(), &mut input) {
+        Got::All(n) => answers(&rt, &input[..n]),
+        Got::Failed(error) => {
+            files::complain(&rt, b"check_lines", b"standard input", error);
+        }
+    }
 }

@@ -1,12 +1,13 @@
 // Checks the program file on standard input again and again, for the benchmark speed/check to time; `second recheck` does and writes the same.
 #![tactic(auto)]
 
-ghost use Rattle.std.specs.Prelude.{◌≤◌};
+ghost use Rattle.std.specs.Prelude.{◌≡◌, ◌≤◌, length};
 
-use libc::{STDIN_FILENO, STDOUT_FILENO};
+use files::Got;
 use program::Checked;
+use std::io::Print;
 
-// What `io::large_buffer` holds: more bytes than any accepted file has.
+// More bytes than any accepted file has.
 const ROOM: usize = 65536;
 
 // About so many bytes are checked in all, whatever the file's length.
@@ -18,12 +19,13 @@ const MOST: usize = 20000;
 // The low byte of the number of scalars: where it is even, an accepted file stays accepted with one more.
 const CHANGED: usize = 4;
 
-fn say(word: &[u8]) {
-    io::write_all(STDOUT_FILENO, word);
+fn say(rt: &impl Print, word: &[u8]) {
+    // Nobody is left to tell where standard output is closed.
+    let _ = rt.write_all(word);
 }
 
-fn number(n: usize) {
-    io::print_decimal(STDOUT_FILENO, n as u64);
+fn number(rt: &impl Print, n: usize) {
+    let _ = rt.print(n);
 }
 
 // How often a file of `n` bytes is checked.
@@ -48,21 +50,21 @@ fn fine(answer: Checked) -> usize
     }
 }
 
-fn tell(calls: usize, accepted: usize, last: Checked) {
-    say(b"calls ");
-    number(calls);
-    say(b" accepted ");
-    number(accepted);
-    say(b" last ");
+fn tell(rt: &impl Print, calls: usize, accepted: usize, last: Checked) {
+    say(rt, b"calls ");
+    number(rt, calls);
+    say(rt, b" accepted ");
+    number(rt, accepted);
+    say(rt, b" last ");
     match last {
-        Checked::Accepted(records, procedures, cells) => say(b"0 0"),
+        Checked::Accepted(records, procedures, cells) => say(rt, b"0 0"),
         Checked::Refused(why, record) => {
-            number(why as usize);
-            say(b" ");
-            number(record);
+            number(rt, why as usize);
+            say(rt, b" ");
+            number(rt, record);
         }
     }
-    say(b"\n");
+    say(rt, b"\n");
 }
 
 // The file's own byte where an even number of turns is left, else the other.
@@ -74,7 +76,7 @@ fn turned(own: u8, left: usize) -> u8 {
 }
 
 // Every other turn has another byte, so that no call can stand for the one before; the last has the file's own.
-fn recheck(mut file: [u8; ROOM], n: usize)
+fn recheck(rt: &impl Print, mut file: [u8; ROOM], n: usize)
     requires { n ≤ 65536 }
 {
     let calls = repeats(n);
@@ -88,11 +90,22 @@ fn recheck(mut file: [u8; ROOM], n: usize)
         last = program::check(&file[..n]);
         accepted += fine(last);
     }
-    tell(calls, accepted, last);
+    tell(rt, calls, accepted, last);
 }
 
-fn main() {
-    let mut file = io::large_buffer();
-    let n = io::read_full(STDIN_FILENO, &mut file);
-    recheck(file, n);
+// Zeros, made apart so that no goal carries them.
+fn empty_file() -> [u8; ROOM]
+    ensures { 65536 ≡ length result }
+{
+    [0; ROOM]
+}
+
+fn main(rt: HostRuntime) {
+    let mut file = empty_file();
+    match files::read_open(&mut rt.stdin(), &mut file) {
+        Got::All(n) => recheck(&rt, file, n),
+        Got::Failed(error) => {
+            files::complain(&rt, b"check_speed", b"standard input", error);
+        }
+    }
 }

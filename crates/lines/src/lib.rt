@@ -10,6 +10,7 @@ use crate::set::{placed, programmed, slotted, stored};
 use crate::tell::tell_steps;
 use machine::{Ran, Stepped, Told};
 use place::Place;
+use std::io::Print;
 
 mod files;
 mod line;
@@ -32,12 +33,12 @@ fn empty_store() -> [i32; CELLS] {
 }
 
 // `s D`: the answer's place, written too.
-fn started(s: &[u8], at: usize, file: &[u8], store: &[i32]) -> Place {
+fn started(rt: &impl Print, s: &[u8], at: usize, file: &[u8], store: &[i32]) -> Place {
     let d = field(s, past(s, at));
     let r = machine::start(file, d.value == 1);
     let told = r.told;
     let place = r.place;
-    tell_steps(told, 0, place, store);
+    tell_steps(rt, told, 0, place, store);
     place
 }
 
@@ -49,53 +50,60 @@ fn made(told: Told) -> u32 {
     }
 }
 
-fn stepped(r: Stepped, store: &[i32]) -> Place {
+fn stepped(rt: &impl Print, r: Stepped, store: &[i32]) -> Place {
     let told = r.told;
     let place = r.place;
-    tell_steps(told, made(told), place, store);
+    tell_steps(rt, told, made(told), place, store);
     place
 }
 
-fn ran(r: Ran, store: &[i32]) -> Place {
+fn ran(rt: &impl Print, r: Ran, store: &[i32]) -> Place {
     let told = r.told;
     let place = r.place;
-    tell_steps(told, r.steps, place, store);
+    tell_steps(rt, told, r.steps, place, store);
     place
 }
 
 // The place after the line at `at`, which is answered where the line moves, reads or saves.
-fn moved(s: &[u8], at: usize, file: &[u8], store: &mut [i32], place: Place) -> Place {
+fn moved(
+    rt: &impl Print,
+    s: &[u8],
+    at: usize,
+    file: &[u8],
+    store: &mut [i32],
+    place: Place,
+) -> Place {
     let c = words::byte_at(s, at);
     if c == b's' {
-        return started(s, at, file, store);
+        return started(rt, s, at, file, store);
     }
     if c == b'f' {
         let r = machine::step(file, place, store);
-        return stepped(r, store);
+        return stepped(rt, r, store);
     }
     if c == b'b' {
         let r = machine::back(file, place, store);
-        return stepped(r, store);
+        return stepped(rt, r, store);
     }
     if c == b'r' {
         let r = machine::run(file, place, store, steps(s, at));
-        return ran(r, store);
+        return ran(rt, r, store);
     }
     if c == b'q' {
         let r = machine::run_back(file, place, store, steps(s, at));
-        return ran(r, store);
+        return ran(rt, r, store);
     }
     if c == b'o' {
-        return opened(s, at, file, store);
+        return opened(rt, s, at, file, store);
     }
     if c == b'v' {
-        kept(s, at, file, store, place);
+        kept(rt, s, at, file, store, place);
     }
     place
 }
 
 // Answers the lines of a stream; how many there are. Each is offered to what sets and to what moves; only the one that it names takes it.
-pub fn answers(s: &[u8]) -> usize
+pub fn answers(rt: &impl Print, s: &[u8]) -> usize
     ensures { result ≡ line_count s.now }
 {
     let mut file = empty_file();
@@ -109,7 +117,7 @@ pub fn answers(s: &[u8]) -> usize
         size = programmed(s, at, &mut file, size);
         cells = stored(s, at, &mut store, cells);
         place = slotted(s, at, placed(s, at, place));
-        place = moved(s, at, &file[..size], &mut store[..cells], place);
+        place = moved(rt, s, at, &file[..size], &mut store[..cells], place);
         count += 1;
         at = words::next_line(s, at);
     }

@@ -7,7 +7,6 @@ ghost use Rattle.print.specs.Zeros.{noughts};
 ghost use Rattle.run.specs.Report.{report_lines, Reports, Counted, Zeroed, Numbered};
 
 use files::Got;
-use libc::STDIN_FILENO;
 use machine::Told;
 use place::Place;
 use print::TEXT;
@@ -84,20 +83,20 @@ fn report(file: &[u8], text: &mut [u8; TEXT]) -> usize
     }
 }
 
-fn answer(file: &[u8]) {
+fn answer(rt: &HostRuntime, file: &[u8]) {
     let mut text = no_text();
     let n = report(file, &mut text);
-    files::say(b"run", &text[..n]);
+    files::say(rt, b"run", &text[..n]);
 }
 
-fn main() {
+fn main(rt: HostRuntime) {
     let mut file = no_file();
-    match files::read_open(STDIN_FILENO, &mut file) {
+    match files::read_open(&mut rt.stdin(), &mut file) {
         Got::Failed(error) => {
-            files::complain(b"run", b"standard input", error);
+            files::complain(&rt, b"run", b"standard input", error);
         }
         Got::All(n) => {
-            answer(&file[..n]);
+            answer(&rt, &file[..n]);
         }
     }
 }

@@ -1,7 +1,7 @@
 // The stream of walks: the machine held to the second program's answers.
 #![tactic(auto)]
 
-use libc::STDIN_FILENO;
+use files::Got;
 
 // More bytes than all the cases have.
 const ALL: usize = 1048576;
@@ -11,8 +11,14 @@ fn empty_input() -> [u8; ALL] {
     [0; ALL]
 }
 
-fn main() {
+fn main(rt: HostRuntime) {
     let mut input = empty_input();
-    let n = io::read_full(STDIN_FILENO, &mut input);
-    lines::answers(&input[..n]);
+    match files::read_open(&mut rt.stdin(), &mut input) {
+        Got::All(n) => {
+            lines::answers(&rt, &input[..n]);
+        }
+        Got::Failed(error) => {
+            files::complain(&rt, b"walk_lines", b"standard input", error);
+        }
+    }
 }

@@ -16,12 +16,14 @@ loop-i-init c = (omega arith, refl, λ d r h. h)
 
 pub loop-i-preserved : goal.loop-i-preserved
 loop-i-preserved c = let l = c.loop-i in
-    let p = c.put_cell-next in (
+    let p = c.put_cell-next in
+    let e = rw (to_z-of_z {w = w32} {z = get_or c.args.store.now l.i (pos 0)} (record { sfits = c.put_cell-arg-in-loop-i-1.given })) at p.ensures in (
       omega arith,
-      p.auto.0 ∙ l.invariant.1,
-      cells-again c.args.buf.now l.buf-1 p.new.0 c.args.at l.i l.next p.result c.args.store.now (omega arith) (rw (to_z-of_z {w = w32} {z = get_or c.args.store.now l.i (pos 0)} (record { sfits = c.put_cell-arg-in-loop-i-1.given })) at p.ensures) l.invariant.2,
+      p.auto.buf ∙ l.invariant.1,
+      cells-again c.args.buf.now l.buf p.new.buf c.args.at l.i l.next p.result c.args.store.now (omega arith) (e.value, e.buf_after) l.invariant.2,
     )
 
 pub returns : goal.returns
 returns c = let l = c.loop-i in
-    cells_end c.args.buf.now l.buf-1 c.args.at l.i l.next c.args.store.now (omega arith) l.invariant.2
+    let h = cells_end c.args.buf.now l.buf c.args.at l.i l.next c.args.store.now (omega arith) l.invariant.2 in
+    record { value = h.0; buf_after = h.1 }

@@ -17,12 +17,13 @@ loop-i-preserved c = let l = c.loop-i in
     let ks = c.args.kinds.now in
     let ls = c.args.labels.now in (
       omega arith,
-      p.auto.0 ∙ l.invariant.1,
-      frames-again c.args.buf.now l.buf-1 p.new.0 c.args.at l.i l.next p.result (frame_lines (min c.args.count 1104) ks ls) ks ls (omega arith) p.ensures l.invariant.2,
+      p.auto.buf ∙ l.invariant.1,
+      frames-again c.args.buf.now l.buf p.new.buf c.args.at l.i l.next p.result (frame_lines (min c.args.count 1104) ks ls) ks ls (omega arith) (p.ensures.value, p.ensures.buf_after) l.invariant.2,
     )
 
 pub returns : goal.returns
 returns c = let l = c.loop-i in
     let ks = c.args.kinds.now in
     let ls = c.args.labels.now in
-    frames_end c.args.buf.now l.buf-1 c.args.at l.i l.next (frame_lines (min c.args.count 1104) ks ls) ks ls (omega arith) l.invariant.2
+    let h = frames_end c.args.buf.now l.buf c.args.at l.i l.next (frame_lines (min c.args.count 1104) ks ls) ks ls (omega arith) l.invariant.2 in
+    record { value = h.0; buf_after = h.1 }

@@ -6,7 +6,8 @@ use Rattle.print.proofs.put_pair.Goals as goal
 
 pub returns : goal.returns
 unfolding pair
-returns c = piece _ _ _ _ _ _ _ _ c.put_bytes-i.ensures
-    (piece _ _ _ _ _ _ _ _ c.put_decimal-j.ensures
-    (piece _ _ _ _ _ _ _ _ c.put_bytes-k.ensures
-    (piece _ _ _ _ _ _ _ _ c.put_decimal-l.ensures (piece _ _ _ _ _ _ _ _ c.put_bytes.ensures (none _ _)))))
+returns c = let h = piece _ _ _ _ _ _ _ _ (c.put_bytes-i.ensures.value, c.put_bytes-i.ensures.buf_after)
+    (piece _ _ _ _ _ _ _ _ (c.put_decimal-j.ensures.value, c.put_decimal-j.ensures.buf_after)
+    (piece _ _ _ _ _ _ _ _ (c.put_bytes-k.ensures.value, c.put_bytes-k.ensures.buf_after)
+    (piece _ _ _ _ _ _ _ _ (c.put_decimal-l.ensures.value, c.put_decimal-l.ensures.buf_after) (piece _ _ _ _ _ _ _ _ (c.put_bytes.ensures.value, c.put_bytes.ensures.buf_after) (none _ _))))) in
+    record { value = h.0; buf_after = h.1 }

@@ -11,11 +11,13 @@ loop-n-init c = begun _ _ _
 
 pub returns-then-i-s : goal.returns-then-i-s
 returns-then-i-s c = let a = c.args in
-    stops a.s.now a.at a.buf.now _ _ _ c.loop-n.invariant (at_end_lem a.s.now _ c.loop-n.i c.if-i-s.true)
+    let h = stops a.s.now a.at a.buf.now _ _ _ c.loop-n.invariant (at_end_lem a.s.now _ c.loop-n.i c.if-i-s.true) in
+    record { value = h.0; buf_after = h.1.0; counts = h.1.1 }
 
 pub returns-then-b-gt255 : goal.returns-then-b-gt255
 returns-then-b-gt255 c = let a = c.args in
-    stops a.s.now a.at a.buf.now _ _ _ c.loop-n.invariant (none a.s.now _ c.loop-n.i _ c.hex_byte-b.ensures c.if-b-gt255.true)
+    let h = stops a.s.now a.at a.buf.now _ _ _ c.loop-n.invariant (none a.s.now _ c.loop-n.i _ c.hex_byte-b.ensures c.if-b-gt255.true) in
+    record { value = h.0; buf_after = h.1.0; counts = h.1.1 }
 
 pub loop-n-preserved : goal.loop-n-preserved
 loop-n-preserved c = let a = c.args in
@@ -23,4 +25,5 @@ loop-n-preserved c = let a = c.args in
 
 pub returns : goal.returns
 returns c = let a = c.args in
-    stops a.s.now a.at a.buf.now _ _ _ c.loop-n.invariant (full a.s.now _ c.loop-n.i (omega (arith, c.loop-n.invariant.kept)))
+    let h = stops a.s.now a.at a.buf.now _ _ _ c.loop-n.invariant (full a.s.now _ c.loop-n.i (omega (arith, c.loop-n.invariant.kept))) in
+    record { value = h.0; buf_after = h.1.0; counts = h.1.1 }

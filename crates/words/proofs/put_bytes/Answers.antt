@@ -15,7 +15,7 @@ pub overflow_add-result : goal.overflow_add-result
 overflow_add-result c = omega (arith, leb-true (c.args.at + length c.args.word.now) (length c.args.buf.now) (sym c.has_room.ensures ∙ c.if-has_room.true), c.well_formed)
 
 pub returns-then-has_room : goal.returns-then-has_room
-returns-then-has_room c = wrote c.args.buf.now c.copy.new.0 c.args.word.now c.args.at (sym c.has_room.ensures ∙ c.if-has_room.true) c.copy.ensures
+returns-then-has_room c = let h = wrote c.args.buf.now c.copy.new.buf c.args.word.now c.args.at (sym c.has_room.ensures ∙ c.if-has_room.true) c.copy.ensures in record { value = h.0; buf_after = h.1 }
 
 pub returns : goal.returns
-returns c = unwritten c.args.buf.now c.args.word.now c.args.at (sym c.has_room.ensures ∙ c.if-has_room.false)
+returns c = let h = unwritten c.args.buf.now c.args.word.now c.args.at (sym c.has_room.ensures ∙ c.if-has_room.false) in record { value = h.0; buf_after = h.1 }

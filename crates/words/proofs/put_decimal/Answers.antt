@@ -10,13 +10,16 @@ use Rattle.words.proofs.put_decimal.Goals as goal
 
 pub slice_bounds-text-end : goal.slice_bounds-text-end
 slice_bounds-text-end c = let d = c.digits-end in
-    let n : length d.new.0 ≡ 21 = ap length d.ensures.1 ∙ simp length-sets in
-    omega (arith, d.ensures.0, length_digits 19 c.args.n)
+    let n : length d.new.text ≡ 21 = ap length d.ensures.text_after ∙ simp length-sets in
+    omega (arith, d.ensures.value, length_digits 19 c.args.n)
 
 pub slice_bounds-put_bytes-end : goal.slice_bounds-put_bytes-end
-slice_bounds-put_bytes-end c = sym (length-take-le _ _ (slice_bounds-text-end c))
+slice_bounds-put_bytes-end c = let d = c.digits-end in
+    let n : length d.new.text ≡ 21 = ap length d.ensures.text_after ∙ simp length-sets in
+    sym (length-take-le _ _ (omega (arith, d.ensures.value, length_digits 19 c.args.n)))
 
 pub returns : goal.returns
-returns c = said c.args.buf.now c.put_bytes.new.0 _ (decimal c.args.n) c.args.at c.put_bytes.result
-    (ap (take c.digits-end.result) c.digits-end.ensures.1 ∙ front _ (decimal c.args.n) c.digits-end.result (omega (arith, length_digits 19 c.args.n)) c.digits-end.ensures.0)
-    c.put_bytes.ensures
+returns c = let h = said c.args.buf.now c.put_bytes.new.buf _ (decimal c.args.n) c.args.at c.put_bytes.result
+    (ap (take c.digits-end.result) c.digits-end.ensures.text_after ∙ front _ (decimal c.args.n) c.digits-end.result (omega (arith, length_digits 19 c.args.n)) c.digits-end.ensures.value)
+    (c.put_bytes.ensures.value, c.put_bytes.ensures.buf_after) in
+    record { value = h.0; buf_after = h.1 }

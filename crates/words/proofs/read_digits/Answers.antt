@@ -12,12 +12,14 @@ loop-next-init c = (refl, refl, omega arith)
 pub returns-then-b-lt48 : goal.returns-then-b-lt48
 returns-then-b-lt48 c = let l = c.loop-next in
     let s = c.args.s.now in
-    stop_here s _ l.value l.next (omega arith) (low 48 57 (get_or s l.next 0) (omega arith)) l.invariant
+    let h = stop_here s _ l.value l.next (omega arith) (low 48 57 (get_or s l.next 0) (omega arith)) l.invariant in
+    record { next_value = h.0; value_value = h.1 }
 
 pub returns-then-b-gt57 : goal.returns-then-b-gt57
 returns-then-b-gt57 c = let l = c.loop-next in
     let s = c.args.s.now in
-    stop_here s _ l.value l.next (omega arith) (high 48 57 (get_or s l.next 0) (omega arith)) l.invariant
+    let h = stop_here s _ l.value l.next (omega arith) (high 48 57 (get_or s l.next 0) (omega arith)) l.invariant in
+    record { next_value = h.0; value_value = h.1 }
 
 pub loop-next-preserved : goal.loop-next-preserved
 loop-next-preserved c = let l = c.loop-next in
@@ -26,4 +28,5 @@ loop-next-preserved c = let l = c.loop-next in
 
 pub returns : goal.returns
 returns c = let l = c.loop-next in
-    stop_end c.args.s.now _ l.value l.next (omega arith) l.invariant
+    let h = stop_end c.args.s.now _ l.value l.next (omega arith) l.invariant in
+    record { next_value = h.0; value_value = h.1 }
