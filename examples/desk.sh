@@ -5,14 +5,13 @@
 # It needs `rt` and second/target/release/second. On Arm the programs run under the kit's emulator.
 set -Eeuo pipefail
 cd "$(dirname "${BASH_SOURCE[0]}")/.."
-home=$(dirname "$(dirname "$(rt doc)")")
-own=$home/on/$(uname -m)
-tools=$own/toolchain
+kit=$(dirname "$(rt doc)")
+tools=$kit/toolchain
 second=$PWD/second/target/release/second
 room=$(mktemp -d)
 trap 'rm -rf "$room"' EXIT
 
-rt staticlib desk >"$room/said" 2>&1 || { cat "$room/said"; exit 1; }
+(cd crates/desk && rt lib) >"$room/said" 2>&1 || { cat "$room/said"; exit 1; }
 
 # the kit's clang brings no headers of its own: the few declarations that the programs use
 mkdir "$room/std"
@@ -59,7 +58,7 @@ H
 
 build() {
     "$tools/bin/clang" --target=x86_64-unknown-linux-gnu -std=c11 -O2 -fPIC -Wall -Wextra -Werror -nostdinc -isystem "$room/std" -Iinclude -c "examples/$1.c" -o "$room/$1.o"
-    "$own/bin/rattle-link" --target x86_64-unknown-linux-gnu --toolchain "$tools" -o "$room/$1" "$room/$1.o" target/staticlib/libdesk.a 2>"$room/said" || { cat "$room/said"; exit 1; }
+    "$kit/bin/rattle-link" --target x86_64-unknown-linux-gnu --toolchain "$tools" -o "$room/$1" "$room/$1.o" crates/desk/out/libdesk.a 2>"$room/said" || { cat "$room/said"; exit 1; }
 }
 emulator=
 if [ -x "$tools/bin/qemu-x86_64" ]; then emulator=$tools/bin/qemu-x86_64; fi

@@ -4,7 +4,3 @@ pub mod Zeros
 pub mod OneAnswer
 pub mod Determined
 pub mod Promises
-pub mod Lent
-pub mod Lending
-pub mod LendingNumber
-pub mod LendingBytes

@@ -14,9 +14,9 @@ pub slice_bounds-cells-end : goal.slice_bounds-cells-end
 slice_bounds-cells-end c = let e : length c.args.session.cells ≡ 2048 = search rules in omega (arith, e)
 
 pub slice_bounds-clear-end : goal.slice_bounds-clear-end
-slice_bounds-clear-end c = let s = c.args.session in let e : length s.cells-1 ≡ 2048 = search rules in sym (length-take-le c.args.count s.cells-1 (omega (arith, e)))
+slice_bounds-clear-end c = let s = c.args.session in let e : length s.cells ≡ 2048 = search rules in sym (length-take-le c.args.count s.cells (omega (arith, e)))
 
 pub returns : goal.returns
-returns c = let s = c.args.session in let e : length s.cells-1 ≡ 2048 = search rules in
+returns c = let s = c.args.session in let e : length s.cells ≡ 2048 = search rules in
     ap (λ (σ : List ℤ). laid s c.args.place c.args.count σ)
-    (c.clear.ensures ∙ ap (λ (n : ℕ). replicate n (pos 0)) (length-take-le c.args.count s.cells-1 (omega (arith, e))))
+    (c.clear.ensures ∙ ap (λ (n : ℕ). replicate n (pos 0)) (length-take-le c.args.count s.cells (omega (arith, e))))

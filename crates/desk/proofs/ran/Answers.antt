@@ -14,8 +14,8 @@ pub slice_bounds-cells-end : goal.slice_bounds-cells-end
 slice_bounds-cells-end c = let e : length c.args.session.cells ≡ 2048 = search rules in omega (arith, e)
 
 pub slice_bounds-run-end : goal.slice_bounds-run-end
-slice_bounds-run-end c = let s = c.args.session in let e : length s.cells-1 ≡ 2048 = search rules in
-    sym (length-take-le s.count s.cells-1 (omega (arith, e)))
+slice_bounds-run-end c = let s = c.args.session in let e : length s.cells ≡ 2048 = search rules in
+    sym (length-take-le s.count s.cells (omega (arith, e)))
 
 pub returns : goal.returns
 returns c = run_within _ _ _ _ _ _ _ _ _ c.if-count-gt-CELLS.false c.run-r.ensures c.in_numbers-answer.ensures

@@ -13,4 +13,4 @@ pub slice_bounds-read-end : goal.slice_bounds-read-end
 slice_bounds-read-end c = let a = c.args in let e : length a.session.cells ≡ 2048 = search rules in sym (length-take-le a.count a.session.cells (omega (arith, e)))
 
 pub returns : goal.returns
-returns c = record { told = _; place = _; store = _; sized = sym (slice_bounds-read-end c); read = c.read-r.ensures; left = c.settled.ensures }
+returns c = let a = c.args in let e : length a.session.cells ≡ 2048 = search rules in record { told = _; place = _; store = _; sized = length-take-le a.count a.session.cells (omega (arith, e)); read = c.read-r.ensures; left = c.settled.ensures }

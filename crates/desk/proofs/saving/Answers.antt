@@ -14,7 +14,7 @@ pub slice_bounds-cells-end : goal.slice_bounds-cells-end
 slice_bounds-cells-end c = let e : length c.args.session.cells ≡ 2048 = search rules in omega (arith, e)
 
 pub slice_bounds-save-end : goal.slice_bounds-save-end
-slice_bounds-save-end c = let s = c.args.session in let e : length s.cells-1 ≡ 2048 = search rules in sym (length-take-le s.count s.cells-1 (omega (arith, e)))
+slice_bounds-save-end c = let s = c.args.session in let e : length s.cells ≡ 2048 = search rules in sym (length-take-le s.count s.cells (omega (arith, e)))
 
 pub returns : goal.returns
 returns c = saving_within _ _ _ _ _ _ _ c.if-count-gt-CELLS.false c.save-r.ensures c.in_numbers.ensures

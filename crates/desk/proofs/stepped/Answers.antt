@@ -14,8 +14,8 @@ pub slice_bounds-cells-end : goal.slice_bounds-cells-end
 slice_bounds-cells-end c = let e : length c.args.session.cells ≡ 2048 = search rules in omega (arith, e)
 
 pub slice_bounds-step-end : goal.slice_bounds-step-end
-slice_bounds-step-end c = let s = c.args.session in let e : length s.cells-1 ≡ 2048 = search rules in
-    sym (length-take-le s.count s.cells-1 (omega (arith, e)))
+slice_bounds-step-end c = let s = c.args.session in let e : length s.cells ≡ 2048 = search rules in
+    sym (length-take-le s.count s.cells (omega (arith, e)))
 
 pub returns : goal.returns
 returns c = step_within _ _ _ _ _ _ _ c.if-count-gt-CELLS.false c.step-r.ensures c.settled.ensures
