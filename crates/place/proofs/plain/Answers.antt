@@ -10,13 +10,13 @@ pub returns-then-n-gt1104 : goal.returns-then-n-gt1104
 returns-then-n-gt1104 c = not_count _ c.if-n-gt1104.true
 
 pub returns-then-not-are_kinds : goal.returns-then-not-are_kinds
-returns-then-not-are_kinds c = not_kinds _ (no c.are_kinds.result c.are_kinds.ensures c.if-not-are_kinds.true-raw)
+returns-then-not-are_kinds c = not_kinds _ (no c.are_kinds.result c.are_kinds.ensures (search rules))
 
 pub returns-then-not-are_unused : goal.returns-then-not-are_unused
-returns-then-not-are_unused c = not_unused_kinds _ (no c.are_unused.result c.are_unused.ensures c.if-not-are_unused.true-raw)
+returns-then-not-are_unused c = not_unused_kinds _ (no c.are_unused.result c.are_unused.ensures (search rules))
 
 pub returns-then-not-are_unused-2 : goal.returns-then-not-are_unused-2
-returns-then-not-are_unused-2 c = not_unused_labels _ (no c.are_unused-2.result c.are_unused-2.ensures c.if-not-are_unused-2.true-raw)
+returns-then-not-are_unused-2 c = not_unused_labels _ (no c.are_unused-2.result c.are_unused-2.ensures (search rules))
 
 pub returns : goal.returns
-returns c = plain_yes _ (search rules) (search rules) (search rules) (search rules) (yes c.are_kinds.result c.are_kinds.ensures c.if-not-are_kinds.false-raw) (yes c.are_unused.result c.are_unused.ensures c.if-not-are_unused.false-raw) (yes c.are_unused-2.result c.are_unused-2.ensures c.if-not-are_unused-2.false-raw)
+returns c = plain_yes _ (search rules) (search rules) (search rules) (search rules) (yes c.are_kinds.result c.are_kinds.ensures (search rules)) (yes c.are_unused.result c.are_unused.ensures (search rules)) (yes c.are_unused-2.result c.are_unused-2.ensures (search rules))
