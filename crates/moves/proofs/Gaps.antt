@@ -9,7 +9,6 @@ use Rattle.order.specs.Trees.{Stmt, set_s, skip_s, call_s, uncall_s, if_s, from_
 use Rattle.moves.proofs.Sizes.{size_s, size_b}
 use Rattle.moves.specs.Edges.{Frame, in_then, in_else, in_do, in_loop, Edge, edge, edges_s, edges_b, edges_p, edges}
 use Rattle.moves.specs.Places.{Dir, down, up}
-use Rattle.moves.specs.Stores.{holds}
 use Rattle.moves.proofs.Linked.{Prog, onto, off, side}
 use Rattle.moves.proofs.Cuts.{met}
 use Rattle.moves.proofs.Rows.{begin_from, end_from, rows_s, rows_b, length_s, length_b, Holds, holds_left, holds_right, holds_around, entry_is, end_s, rows_p, prog}

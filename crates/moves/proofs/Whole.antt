@@ -7,7 +7,6 @@ use native.Mathlib.Omega.{arith}
 use Rattle.records.specs.Records.{names, kind}
 use Rattle.order.specs.Trees.{Block, Tree, procedures, records_of}
 use Rattle.moves.proofs.Sizes.{size_b}
-use Rattle.moves.specs.Stores.{holds}
 use Rattle.moves.proofs.Linked.{Rec, name_l, begin_l, end_l, set_l, skip_l, if_l, else_l, fi_l, from_l, loop_l, until_l, call_l, uncall_l, Prog, forget}
 use Rattle.moves.proofs.Cuts.{Undoes, ProcOk, Local, Wf}
 use Rattle.moves.proofs.Rows.{begin_from, end_from, begin_of, end_of, Row, row, rows_b, length_b, Holds, holds_left, holds_right, end_b, rows_p, no_row, rows_of, prog, each_get_d, Plain, plain_p}
