@@ -17,7 +17,6 @@ use Rattle.place.proofs.Held.{seen_held, plain_of_lem, plain_count, plain_kind}
 use Rattle.records.specs.Records.{kind}
 use Rattle.order.specs.Trees.{Tree, records_of}
 use Rattle.program.specs.Says.{Accepts}
-use Rattle.moves.specs.Labels.{at}
 use Rattle.moves.specs.Places.{Fits}
 use Rattle.moves.proofs.Linked.{Rec, name_l, begin_l, end_l, set_l, skip_l, if_l, else_l, fi_l, from_l, loop_l, until_l, call_l, uncall_l, Prog, forget, off}
 use Rattle.moves.proofs.Cuts.{Cut, Local, Wf, Good, Sits}

@@ -8,7 +8,6 @@ use mathlib.Core.List.{List, [], ◌∷◌}
 use lib.ListN.{get_or-eq_default}
 use native.Mathlib.Omega.{arith}
 use Rattle.order.specs.Trees.{Block, Tree, procedures}
-use Rattle.moves.specs.Labels.{at}
 use Rattle.moves.proofs.Sizes.{size_b}
 use Rattle.moves.specs.Edges.{Frame, in_then, in_else, in_do, in_loop, frame_kind, frame_label}
 use Rattle.moves.proofs.Linked.{Con, Rec, name_l, begin_l, end_l, set_l, skip_l, if_l, else_l, fi_l, from_l, loop_l, until_l, call_l, uncall_l, Prog}

@@ -34,7 +34,6 @@ use Rattle.machine.proofs.Labels.{inside}
 use Rattle.machine.proofs.Landing.{top_label, spot_at, Fate, Acts, lands, acts_push, acts_pop, slot_top}
 use Rattle.machine.proofs.Sets.{Agrees}
 use Rattle.machine.proofs.Decided.{w, kind_at_lem}
-use Rattle.machine.proofs.Fates as fates
 
 pub other_is : (d : Dir) → other_of (dir_number d) ≡ dir_number (opp d)
 other_is down = refl

@@ -6,7 +6,7 @@ use mathlib.Core.List.{List, [], ◌++◌, map}
 use lib.ListN.{length}
 use native.Mathlib.Omega.{arith}
 use Rattle.place.specs.declared.Place.{Place as Held}
-use Rattle.place.specs.Places.{Dir, up, opp, Frame, frame_kind, frame_label}
+use Rattle.place.specs.Places.{Dir, opp, Frame, frame_kind, frame_label}
 use Rattle.place.specs.Slots.{dir_number, slots, held}
 use Rattle.place.specs.Methods.{blank_of, moved_of}
 use Rattle.place.proofs.Laws.{blank_held}

@@ -1,5 +1,5 @@
 -- What the public functions compute is what Answers says, for every file, struct and store.
-use Prim.Native.Nat.{ℕ, zero, suc, ◌+◌, ◌≤◌}
+use Prim.Native.Nat.{ℕ, zero, suc, ◌≤◌}
 use mathlib.Core.Path.{◌≡◌, refl, sym, ap, ◌∙◌, subst}
 use mathlib.Core.Bool.{cond}
 use lib.Dec.{eqb}

@@ -1,9 +1,8 @@
 -- The answers of the functions of src/lib.rt, case by case. Assumes nothing.
 use mathlib.Core.Path.{◌≡◌, refl, sym, ap, ◌∙◌, subst}
-use mathlib.Core.Bool.{Bool, true, false, not, false≢true}
+use mathlib.Core.Bool.{Bool, true, false, false≢true}
 use mathlib.Core.List.{List}
 use Prim.Native.Nat.{ℕ, ◌≤◌}
-use native.Mathlib.Omega.{arith}
 use borrow.Author.Tests.{eq-eqb, ne_eqb}
 use lib.ListN.{length}
 use Rattle.place.specs.declared.Place.{Place as Held}
@@ -32,14 +31,6 @@ answer_done n e = rw (eq-eqb n 0 e)
 pub answer_not : (n : ℕ) → (n ≡ 0 → ⊥) → Refused n 0 ≡ told_by n
 answer_not n e = rw (ne_eqb n 0 e)
 
-not-true : (b : Bool) → not b ≡ true → b ≡ false
-not-true true e = absurd (let z : ◌≡◌ {A = ℕ} 0 1 = cc in let y : ⊥ = omega arith in y)
-not-true false e = refl
-
-not-false : (b : Bool) → not b ≡ false → b ≡ true
-not-false true e = refl
-not-false false e = absurd (let z : ◌≡◌ {A = ℕ} 0 1 = cc in let y : ⊥ = omega arith in y)
-
 -- ---- `went`: the copies, the map and the loop
 pub copied_goes : (f tab : List ℕ) (records : ℕ) (q : Held) (σ : Store) (n : ℕ) (bytes arr map : List ℕ) (k : ℕ) (cells left : Store) (w : Went) (τ : Store)
     → bytes ≡ pad_to 32784 f → arr ≡ arrays_at f → Maps bytes tab records map → k ≡ calls_of q.kinds q.count → cells ≡ widen_to 2048 σ
@@ -52,9 +43,9 @@ copied_goes f tab records q σ n bytes arr map k cells left w τ eb ea m ek ec g
 
 -- ---- `checked`
 -- a place that fits has room
-pub fits_count : (f tab : List ℕ) (records : ℕ) (q : Held) (b : Bool) → b ≡ fits_in f tab records q → not b ≡ false → q.count ≤ 1104
+pub fits_count : (f tab : List ℕ) (records : ℕ) (q : Held) (b : Bool) → b ≡ fits_in f tab records q → b ≡ true → q.count ≤ 1104
 unfolding fits_in
-fits_count f tab records q b e n = go (plain_of q) refl (sym e ∙ not-false b n)
+fits_count f tab records q b e n = go (plain_of q) refl (sym e ∙ n)
   where
     go : (t : Bool) → plain_of q ≡ t → fits_in f tab records q ≡ true → q.count ≤ 1104
     go true p h = plain_count q (subst (λ (t : Bool). Decides t (Plain q)) p (plain_of_lem q))
@@ -68,13 +59,13 @@ module _ (f : List ℕ) (records c : ℕ) (q : Held) (σ : Store) (n : ℕ) wher
     decided : {x : Bool} → b ≡ x → fits_in f (table_of f) records q ≡ x
     decided k = ap (λ (l : List ℕ). fits_in f l records q) (sym et) ∙ (sym eb ∙ k)
 
-    pub checked_place : (r : Ran) → not b ≡ true → r ≡ staying 21 0 q → CheckedRun f records c q σ n r σ
-    checked_place r k e = place h (decided (not-true b k)) e refl
+    pub checked_place : (r : Ran) → b ≡ false → r ≡ staying 21 0 q → CheckedRun f records c q σ n r σ
+    checked_place r k e = place h (decided k) e refl
 
-    pub checked_went : not b ≡ false → (w : Went) (τ : Store) → Copied f tab records q σ n w τ → (t : Told) → t ≡ told_by w.reason
+    pub checked_went : b ≡ true → (w : Went) (τ : Store) → Copied f tab records q σ n w τ → (t : Told) → t ≡ told_by w.reason
         → CheckedRun f records c q σ n (record { told = t; steps = w.steps; place = w.place }) τ
     checked_went k w τ g t e =
-        went h (decided (not-false b k)) (subst (λ (l : List ℕ). Copied f l records q σ n w τ) et g) (λ i. record { told = e i; steps = w.steps; place = w.place })
+        went h (decided k) (subst (λ (l : List ℕ). Copied f l records q σ n w τ) et g) (λ i. record { told = e i; steps = w.steps; place = w.place })
 
 pub begun_is : (f : List ℕ) (up : Bool) (tab : List ℕ) (n a b : ℕ) (l m : Held) → tab ≡ table_of f → n ≡ number_of up → a ≡ gate_of tab 0 n → b ≡ along_of tab n a → l ≡ blank_of
     → m ≡ moved_of l n a b → ◌≡◌ {A = Started} (record { told = Done; place = m }) (start_of f up)

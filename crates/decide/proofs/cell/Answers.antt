@@ -1,5 +1,4 @@
 -- `decide::cell` meets its contract: the cases of `DecideCases`. Assumes nothing.
-use borrow.Author.Rules.{rules}
 use Rattle.decide.proofs.DecideCases.{sets}
 use Rattle.decide.proofs.cell.Goals as goal
 

@@ -1,5 +1,4 @@
 -- `decide::cell_of_array` meets its contract: the cases of `DecideCases`. Assumes nothing.
-use borrow.Author.Rules.{rules}
 use Rattle.decide.proofs.DecideCases.{sets}
 use Rattle.decide.proofs.cell_of_array.Goals as goal
 

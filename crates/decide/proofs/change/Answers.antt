@@ -1,5 +1,4 @@
 -- `decide::change` meets its contract: the cases of `DecideCases`. Assumes nothing.
-use borrow.Author.Rules.{rules}
 use Rattle.decide.proofs.DecideCases.{slots}
 use Rattle.decide.proofs.change.Goals as goal
 

@@ -1,5 +1,4 @@
 -- `decide::looped` meets its contract: the cases of `DecideCases`. Assumes nothing.
-use borrow.Author.Rules.{rules}
 use Rattle.decide.proofs.DecideCases.{tests}
 use Rattle.decide.proofs.looped.Goals as goal
 

@@ -1,5 +1,4 @@
 -- `decide::push` meets its contract: the cases of `DecideCases`. Assumes nothing.
-use borrow.Author.Rules.{rules}
 use Rattle.decide.proofs.DecideCases.{depths, slots}
 use Rattle.decide.proofs.push.Goals as goal
 

@@ -1,5 +1,4 @@
 -- `decide::tested` meets its contract: the cases of `DecideCases`. Assumes nothing.
-use borrow.Author.Rules.{rules}
 use Rattle.decide.proofs.DecideCases.{tests}
 use Rattle.decide.proofs.tested.Goals as goal
 

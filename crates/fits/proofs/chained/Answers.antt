@@ -1,10 +1,8 @@
 -- `fits::chained` meets its contract. The loop's invariant: what is answered is what the slots that are left answer from where one stands.
 -- The measure is the number of slots that are left. Assumes nothing.
-use mathlib.Core.Path.{◌≡◌, refl, sym, ◌∙◌}
+use mathlib.Core.Path.{refl, sym, ◌∙◌}
 use Prim.Native.Nat.{◌<◌}
 use native.Mathlib.Omega.{arith}
-use borrow.Author.Rules.{rules}
-use Rattle.fits.specs.Fits.{chained}
 use Rattle.fits.proofs.Cases.{chained_none, chained_more}
 use Rattle.fits.proofs.chained.Goals as goal
 

@@ -1,5 +1,4 @@
 -- `fits::edge_fits` meets its contract: the cases of `Cases`. Assumes nothing.
-use borrow.Author.Rules.{rules}
 use Rattle.fits.proofs.Cases.{answers}
 use Rattle.fits.proofs.edge_fits.Goals as goal
 

@@ -1,5 +1,4 @@
 -- `fits::outward` meets its contract: the cases of `Cases`. Assumes nothing.
-use borrow.Author.Rules.{rules}
 use Rattle.fits.proofs.Cases.{answers}
 use Rattle.fits.proofs.outward.Goals as goal
 

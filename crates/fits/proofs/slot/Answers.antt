@@ -1,5 +1,4 @@
 -- `fits::slot` meets its contract: the cases of `Cases`. Assumes nothing.
-use borrow.Author.Rules.{rules}
 use Rattle.fits.proofs.Cases.{answers}
 use Rattle.fits.proofs.slot.Goals as goal
 

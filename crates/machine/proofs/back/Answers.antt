@@ -1,5 +1,4 @@
 -- `machine::back` meets its contract: a run of one is a step. Assumes nothing.
-use borrow.Author.Rules.{rules}
 use Rattle.moves.specs.Step.{step_back}
 use Rattle.machine.proofs.Whole.{step_says}
 use Rattle.machine.proofs.back.Goals as goal

@@ -1,5 +1,4 @@
 -- `machine::begun` meets its contract. Assumes nothing.
-use borrow.Author.Rules.{rules}
 use Rattle.machine.proofs.WholeCases.{begun_is}
 use Rattle.machine.proofs.begun.Goals as goal
 

@@ -1,5 +1,4 @@
 -- `machine::run` meets its contract: Whole. Assumes nothing.
-use borrow.Author.Rules.{rules}
 use Rattle.machine.proofs.Whole.{checked_says, refused_says}
 use Rattle.machine.proofs.run.Goals as goal
 

@@ -1,5 +1,4 @@
 -- `machine::run_back` meets its contract: the run forward of the place turned round. Assumes nothing.
-use borrow.Author.Rules.{rules}
 use Rattle.machine.proofs.Whole.{back_says}
 use Rattle.machine.proofs.run_back.Goals as goal
 

@@ -1,5 +1,4 @@
 -- `machine::start` meets its contract. Assumes nothing.
-use borrow.Author.Rules.{rules}
 use Rattle.machine.proofs.Starts.{refused_start, started_says}
 use Rattle.machine.proofs.start.Goals as goal
 

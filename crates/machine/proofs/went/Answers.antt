@@ -1,5 +1,4 @@
 -- `machine::went` meets its contract: `WholeCases` joins the copies, the map and the loop. Assumes nothing.
-use borrow.Author.Rules.{rules}
 use Rattle.machine.proofs.WholeCases.{copied_goes}
 use Rattle.machine.proofs.went.Goals as goal
 

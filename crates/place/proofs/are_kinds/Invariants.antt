@@ -1,8 +1,6 @@
 -- `place::are_kinds` meets its contract. The loop's invariant: each slot passed is a kind. Assumes nothing.
 use Prim.Native.Nat.{ℕ, ◌-◌, ◌≤◌, ◌<◌}
-use native.Mathlib.Omega.{arith}
 use lib.ListN.{get_or}
-use borrow.Author.Count.{below_more}
 use Rattle.place.proofs.are_kinds.Given as goal
 
 abbrev pub invariant-loop-i : goal.invariant-loop-i

@@ -1,9 +1,7 @@
 -- `place::are_unused` meets its contract. The loop's invariant: each slot passed from n on holds 0. Assumes nothing.
 use mathlib.Core.Path.{◌≡◌}
 use Prim.Native.Nat.{ℕ, ◌-◌, ◌≤◌, ◌<◌}
-use native.Mathlib.Omega.{arith}
 use lib.ListN.{get_or}
-use borrow.Author.Count.{below_more}
 use Rattle.place.proofs.are_unused.Given as goal
 
 abbrev pub invariant-loop-i : goal.invariant-loop-i

@@ -1,5 +1,4 @@
 -- `table::from_above` meets its contract: the cases of `Stores`. Assumes nothing.
-use borrow.Author.Rules.{rules}
 use Rattle.table.proofs.Stores.{above}
 use Rattle.table.proofs.from_above.Goals as goal
 

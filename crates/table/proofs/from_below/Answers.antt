@@ -1,5 +1,4 @@
 -- `table::from_below` meets its contract: the cases of `Stores`. Assumes nothing.
-use borrow.Author.Rules.{rules}
 use Rattle.table.proofs.Stores.{below}
 use Rattle.table.proofs.from_below.Goals as goal
 

@@ -1,5 +1,4 @@
 -- `table::join` meets its contract: the cases of `Stores`. Assumes nothing.
-use borrow.Author.Rules.{rules}
 use Rattle.table.proofs.Stores.{join_is}
 use Rattle.table.proofs.join.Goals as goal
 

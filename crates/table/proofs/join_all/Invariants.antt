@@ -1,9 +1,7 @@
 -- `table::join_all` meets its contract. The invariant: what is left to be done gives the whole. Assumes nothing.
 use mathlib.Core.Path.{◌≡◌}
 use Prim.Native.Nat.{◌-◌, ◌≤◌, pred}
-use native.Mathlib.Omega.{arith}
 use Rattle.table.specs.Table.{joined}
-use Rattle.table.proofs.Loops.{joined_first, joined_on, joined_done}
 use Rattle.table.proofs.join_all.Given as goal
 
 abbrev pub invariant-loop-g : goal.invariant-loop-g

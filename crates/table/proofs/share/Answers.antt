@@ -1,5 +1,4 @@
 -- `table::share` meets its contract: the cases of `Stores`. Assumes nothing.
-use borrow.Author.Rules.{rules}
 use Rattle.table.proofs.Stores.{share_is}
 use Rattle.table.proofs.share.Goals as goal
 

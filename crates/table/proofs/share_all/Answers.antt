@@ -1,8 +1,5 @@
 -- `table::share_all` meets its contract. The invariant: what is left to be done gives the whole. Assumes nothing.
-use mathlib.Core.Path.{◌≡◌}
-use Prim.Native.Nat.{◌-◌, ◌≤◌}
 use native.Mathlib.Omega.{arith}
-use Rattle.table.specs.Table.{shared}
 use Rattle.table.proofs.Loops.{shared_first, shared_on, shared_done}
 use Rattle.table.proofs.share_all.Goals as goal
 

@@ -1,5 +1,4 @@
 -- `table::table` meets its contract: the three passes after one another. Assumes nothing.
-use borrow.Author.Rules.{rules}
 use Rattle.table.proofs.Loops.{table_whole}
 use Rattle.table.proofs.table.Goals as goal
 

@@ -1,5 +1,4 @@
 -- `ways::gate` meets its contract: the cases of `LookCases`. Assumes nothing.
-use borrow.Author.Rules.{rules}
 use Rattle.ways.proofs.LookCases.{smalls}
 use Rattle.ways.proofs.gate.Goals as goal
 

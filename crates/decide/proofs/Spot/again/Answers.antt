@@ -1,5 +1,4 @@
 -- `decide::Spot::again` meets its contract: the cases of `DecideCases`. Assumes nothing.
-use borrow.Author.Rules.{rules}
 use Rattle.decide.proofs.DecideCases.{acts}
 use Rattle.decide.proofs.Spot.again.Goals as goal
 

@@ -1,5 +1,4 @@
 -- `decide::Spot::assigned` meets its contract: the cases of `DecideCases`. Assumes nothing.
-use borrow.Author.Rules.{rules}
 use Rattle.decide.proofs.DecideCases.{sets}
 use Rattle.decide.proofs.Spot.assigned.Goals as goal
 

@@ -1,5 +1,4 @@
 -- `decide::Spot::back_to` meets its contract: the cases of `DecideCases`. Assumes nothing.
-use borrow.Author.Rules.{rules}
 use Rattle.decide.proofs.DecideCases.{calls}
 use Rattle.decide.proofs.Spot.back_to.Goals as goal
 

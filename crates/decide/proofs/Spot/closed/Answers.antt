@@ -1,5 +1,4 @@
 -- `decide::Spot::closed` meets its contract: the cases of `DecideCases`. Assumes nothing.
-use borrow.Author.Rules.{rules}
 use Rattle.decide.proofs.DecideCases.{acts}
 use Rattle.decide.proofs.Spot.closed.Goals as goal
 

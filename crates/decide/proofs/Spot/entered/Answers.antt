@@ -1,6 +1,5 @@
 -- `decide::Spot::entered` meets its contract: the cases of `DecideCases`. Assumes nothing.
 use native.Mathlib.Omega.{arith}
-use borrow.Author.Rules.{rules}
 use Rattle.decide.proofs.DecideCases.{calls, pushed_small}
 use Rattle.decide.proofs.Spot.entered.Goals as goal
 

@@ -1,5 +1,4 @@
 -- `decide::Spot::on` meets its contract: the cases of `DecideCases`. Assumes nothing.
-use borrow.Author.Rules.{rules}
 use Rattle.decide.proofs.DecideCases.{moves}
 use Rattle.decide.proofs.Spot.on.Goals as goal
 

@@ -1,5 +1,4 @@
 -- `decide::set::apply` meets its contract: the cases of `SetCases`. Assumes nothing.
-use borrow.Author.Rules.{rules}
 use Rattle.decide.proofs.SetCases.{applies}
 use Rattle.decide.proofs.set.apply.Goals as goal
 

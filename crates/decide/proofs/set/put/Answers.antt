@@ -1,5 +1,4 @@
 -- `decide::set::put` meets its contract: the cases of `SetCases`. Assumes nothing.
-use borrow.Author.Rules.{rules}
 use Rattle.decide.proofs.SetCases.{puts}
 use Rattle.decide.proofs.set.put.Goals as goal
 

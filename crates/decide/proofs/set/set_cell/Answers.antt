@@ -1,5 +1,4 @@
 -- `decide::set::set_cell` meets its contract: the cases of `SetCases`. Assumes nothing.
-use borrow.Author.Rules.{rules}
 use Rattle.decide.proofs.SetCases.{cells, casts}
 use Rattle.decide.proofs.set.set_cell.Goals as goal
 

@@ -1,5 +1,4 @@
 -- `decide::set::set_entry` meets its contract: the cases of `SetCases`. Assumes nothing.
-use borrow.Author.Rules.{rules}
 use Rattle.decide.proofs.SetCases.{entered, casts}
 use Rattle.decide.proofs.set.set_entry.Goals as goal
 

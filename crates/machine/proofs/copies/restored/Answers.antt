@@ -1,9 +1,8 @@
 -- `machine::copies::restored` meets its contract. The loop's invariant: what is copied so far lies over the store. Assumes nothing.
 use mathlib.Core.Path.{◌≡◌, refl, ◌∙◌}
-use mathlib.Core.List.{◌++◌}
-use Prim.Native.Nat.{◌-◌, ◌≤◌, ◌<◌, min}
+use Prim.Native.Nat.{◌<◌, min}
 use native.Mathlib.Omega.{arith}
-use lib.ListN.{length, take, drop, length-set}
+use lib.ListN.{length, length-set}
 use borrow.Author.Rules.{rules}
 use Rattle.machine.specs.Copies.{widen_to}
 use Rattle.machine.proofs.CopyCases.{copied_back, over_is, length_widen}

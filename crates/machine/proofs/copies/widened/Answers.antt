@@ -1,9 +1,8 @@
 -- `machine::copies::widened` meets its contract. The loop's invariant: what is copied so far lies over the zeros. Assumes nothing.
 use mathlib.Core.Path.{◌≡◌, refl, sym, ap, ◌∙◌}
-use mathlib.Core.List.{◌++◌}
-use Prim.Native.Nat.{◌-◌, ◌≤◌, ◌<◌, min}
+use Prim.Native.Nat.{◌<◌, min}
 use native.Mathlib.Omega.{arith}
-use lib.ListN.{length, take, drop, length-set}
+use lib.ListN.{length, length-set}
 use borrow.Author.Rules.{rules}
 use Rattle.machine.specs.Copies.{over}
 use Rattle.machine.proofs.CopyCases.{length_cells, copied_cell, over_is}

@@ -1,12 +1,8 @@
 -- `machine::copies::widened` meets its contract. The loop's invariant: what is copied so far lies over the zeros. Assumes nothing.
-use mathlib.Core.Path.{◌≡◌, refl, sym, ap, ◌∙◌}
+use mathlib.Core.Path.{◌≡◌}
 use mathlib.Core.List.{◌++◌}
-use Prim.Native.Nat.{◌-◌, ◌≤◌, ◌<◌, min}
-use native.Mathlib.Omega.{arith}
-use lib.ListN.{length, take, drop, length-set}
-use borrow.Author.Rules.{rules}
-use Rattle.machine.specs.Copies.{over}
-use Rattle.machine.proofs.CopyCases.{length_cells, copied_cell, over_is}
+use Prim.Native.Nat.{◌-◌, ◌≤◌}
+use lib.ListN.{length, take, drop}
 use Rattle.machine.proofs.copies.widened.Given as goal
 
 abbrev pub invariant-loop-i : goal.invariant-loop-i

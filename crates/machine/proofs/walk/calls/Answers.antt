@@ -1,5 +1,4 @@
 -- `machine::walk::calls` meets its contract. Assumes nothing.
-use borrow.Author.Rules.{rules}
 use Rattle.machine.proofs.WalkCases.{calls_near, calls_far}
 use Rattle.machine.proofs.walk.calls.Goals as goal
 

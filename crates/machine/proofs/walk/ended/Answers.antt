@@ -1,5 +1,4 @@
 -- `machine::walk::ended` meets its contract: the place is put together again. Assumes nothing.
-use borrow.Author.Rules.{rules}
 use Rattle.machine.proofs.WalkCases.{ended_is}
 use Rattle.machine.proofs.walk.ended.Goals as goal
 

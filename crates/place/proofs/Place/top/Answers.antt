@@ -1,5 +1,4 @@
 -- `place::Place::top` meets its contract: the cases of `Cases`. Assumes nothing.
-use borrow.Author.Rules.{rules}
 use Rattle.place.proofs.Cases.{answers}
 use Rattle.place.proofs.Place.top.Goals as goal
 

@@ -1,5 +1,4 @@
 -- `table::kinds::begins` meets its contract: the cases of `Stores`. Assumes nothing.
-use borrow.Author.Rules.{rules}
 use Rattle.table.proofs.Stores.{stores}
 use Rattle.table.proofs.kinds.begins.Goals as goal
 

@@ -1,5 +1,4 @@
 -- `table::kinds::closes` meets its contract: the cases of `Stores`. Assumes nothing.
-use borrow.Author.Rules.{rules}
 use Rattle.table.proofs.Stores.{stores}
 use Rattle.table.proofs.kinds.closes.Goals as goal
 

@@ -1,5 +1,4 @@
 -- `table::kinds::enter` meets its contract: the cases of `Stores`. Assumes nothing.
-use borrow.Author.Rules.{rules}
 use Rattle.table.proofs.Stores.{kinds}
 use Rattle.table.specs.Table.{entered}
 use Rattle.table.proofs.kinds.enter.Goals as goal

@@ -1,9 +1,7 @@
 -- `table::kinds::fill` meets its contract. The invariant: what is left to be filled gives the whole. Assumes nothing.
 use Prim.Native.Nat.{◌-◌, ◌≤◌}
-use native.Mathlib.Omega.{arith}
-use borrow.Author.Rules.{rules}
 use lib.ListN.{length}
-use Rattle.table.proofs.Loops.{Left, left_first, left_stops, left_full, left_on}
+use Rattle.table.proofs.Loops.{Left}
 use Rattle.table.proofs.kinds.fill.Given as goal
 
 abbrev pub invariant-loop-x : goal.invariant-loop-x

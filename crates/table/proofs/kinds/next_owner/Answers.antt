@@ -1,5 +1,4 @@
 -- `table::kinds::next_owner` meets its contract: the cases of `Stores`. Assumes nothing.
-use borrow.Author.Rules.{rules}
 use native.Mathlib.Omega.{arith}
 use Rattle.table.proofs.Stores.{owners}
 use Rattle.table.proofs.kinds.next_owner.Goals as goal

@@ -1,5 +1,4 @@
 -- `ways::map::act_of` meets its contract: the cases of `MapCases`. Assumes nothing.
-use borrow.Author.Rules.{rules}
 use Rattle.ways.proofs.MapCases.{kinds}
 use Rattle.ways.proofs.map.act_of.Goals as goal
 

@@ -1,5 +1,4 @@
 -- `ways::map::entry_at` meets its contract: the cases of `MapCases`. Assumes nothing.
-use borrow.Author.Rules.{rules}
 use Rattle.ways.proofs.MapCases.{entries}
 use Rattle.ways.proofs.map.entry_at.Goals as goal
 

@@ -1,5 +1,4 @@
 -- `ways::map::first_at` meets its contract: the cases of `MapCases`. Assumes nothing.
-use borrow.Author.Rules.{rules}
 use Rattle.ways.proofs.MapCases.{places}
 use Rattle.ways.proofs.map.first_at.Goals as goal
 

@@ -1,9 +1,6 @@
 -- `ways::map::map` meets its contract. The loop's invariant: the map has the entries of the turns made. Assumes nothing.
-use mathlib.Core.Path.{◌≡◌}
-use Prim.Native.Nat.{◌-◌, ◌*◌, ◌≤◌, min}
 use native.Mathlib.Omega.{arith}
-use borrow.Author.Rules.{rules}
-use Rattle.ways.proofs.MapCases.{Filled, filled_none, filled_more, filled_all}
+use Rattle.ways.proofs.MapCases.{filled_none, filled_more, filled_all}
 use Rattle.ways.proofs.map.map.Goals as goal
 
 pub loop-i-init : goal.loop-i-init

@@ -1,5 +1,4 @@
 -- `ways::map::onward_at` meets its contract: the cases of `MapCases`. Assumes nothing.
-use borrow.Author.Rules.{rules}
 use Rattle.ways.proofs.MapCases.{onwards}
 use Rattle.ways.proofs.map.onward_at.Goals as goal
 

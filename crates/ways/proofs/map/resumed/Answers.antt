@@ -1,5 +1,4 @@
 -- `ways::map::resumed` meets its contract: the cases of `MapCases`. Assumes nothing.
-use borrow.Author.Rules.{rules}
 use Rattle.ways.proofs.MapCases.{onwards}
 use Rattle.ways.proofs.map.resumed.Goals as goal
 

@@ -1,5 +1,4 @@
 -- `ways::map::set_act` meets its contract: the cases of `MapCases`. Assumes nothing.
-use borrow.Author.Rules.{rules}
 use Rattle.ways.proofs.MapCases.{sets}
 use Rattle.ways.proofs.map.set_act.Goals as goal
 
