@@ -5,7 +5,7 @@ use Rattle.desk.proofs.Cases.{over_refused, over_accepted}
 use Rattle.desk.proofs.over.Goals as goal
 
 pub returns-in-Refused : goal.returns-in-Refused
-returns-in-Refused c = over_refused c.args.file.now (λ i. omega (arith, c.shared_slice_known-1.given i)) c.check.result c.check.ensures _ _ _ _ c.in-Refused.is c.refused.ensures
+returns-in-Refused c = over_refused c.args.file.now (λ i. omega (arith, c.type_inv.file i)) c.check.result c.check.ensures _ _ _ _ c.in-Refused.is c.refused.ensures
 
 pub returns-in-Accepted : goal.returns-in-Accepted
-returns-in-Accepted c = over_accepted c.args.file.now (λ i. omega (arith, c.shared_slice_known-1.given i)) c.check.result c.check.ensures _ _ _ _ _ c.in-Accepted.is c.refused-in-Accepted.ensures
+returns-in-Accepted c = over_accepted c.args.file.now (λ i. omega (arith, c.type_inv.file i)) c.check.result c.check.ensures _ _ _ _ _ c.in-Accepted.is c.refused-in-Accepted.ensures
