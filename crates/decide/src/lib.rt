@@ -16,6 +16,9 @@ use ways::label_of;
 
 mod set;
 
+// The kind of a loop's frame while its second part runs.
+const IN_SECOND: u16 = 3;
+
 // Where a step stands: the way of the record met; and in one number, which stays in a register, how many frames are calls (4,096
 // for each) and how many there are.
 #[derive(Clone, Copy)]
@@ -195,7 +198,7 @@ impl Spot {
         ensures { result ≡ again_in (sight self kinds.now labels.now) head }
     {
         let kind = top_of(kinds, self.depth % 4096, 9);
-        if kind == 3 {
+        if kind == IN_SECOND {
             return top_of(labels, self.depth % 4096, 0) == head;
         }
         false

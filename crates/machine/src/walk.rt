@@ -81,6 +81,9 @@ fn way_of(b: u16, direction: u8) -> usize
     way_to(b, direction) as usize
 }
 
+// The reason of a step that is made.
+const MADE: u8 = 0;
+
 // At most n steps from a place of which so many frames are calls. In the loop the place is taken apart, so that all but the
 // frames stays in registers; the calls and the frames are counted in one number for that.
 pub(crate) fn go(
@@ -104,7 +107,7 @@ pub(crate) fn go(
     while made < n {
         let s = spot(way, depth);
         let m = decide(s, &mut kinds, &mut labels, bytes, map, arrays, cells);
-        if m.reason != 0 {
+        if m.reason != MADE {
             return ended(m.reason, made, way, a, depth % 4096, kinds, labels);
         }
         made += 1;

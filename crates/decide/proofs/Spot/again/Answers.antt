@@ -2,8 +2,8 @@
 use Rattle.decide.proofs.DecideCases.{acts}
 use Rattle.decide.proofs.Spot.again.Goals as goal
 
-pub returns-then-kind-eq3 : goal.returns-then-kind-eq3
-returns-then-kind-eq3 c = search acts
+pub returns-then-kind-eq-IN_SECOND : goal.returns-then-kind-eq-IN_SECOND
+returns-then-kind-eq-IN_SECOND c = search acts
 
 pub returns : goal.returns
 returns c = search acts
