@@ -1,6 +1,6 @@
 -- For each public function: any two outcomes that its contract permits are equal, the answer and the session or buffer together.
--- `Post κs a r s` is the contract as the check reads it. Of a function over a session that is lent, walked by hand, the check makes no
--- `Post`: for those the theorems are stated of the definition that the contract cites, at the answer and the session afterwards.
+-- `Post κs a r s` is the contract as the check reads it. Of the functions over a session that is lent the theorems are stated of the
+-- definition that the contract cites, at the answer and the session afterwards.
 -- A file's elements are bytes, as its type says.
 use Prim.Native.Nat.{ℕ}
 use mathlib.Core.List.{List}
