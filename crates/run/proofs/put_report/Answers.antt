@@ -6,4 +6,5 @@ use Rattle.run.proofs.put_report.Goals as goal
 
 pub returns : goal.returns
 unfolding report_lines
-returns c = joined _ _ _ _ _ _ _ _ c.put_steps-i.ensures (joined _ _ _ _ _ _ _ _ c.put_at-j.ensures c.put_cells.ensures)
+returns c = let h = joined _ _ _ _ _ _ _ _ (c.put_steps-i.ensures.value, c.put_steps-i.ensures.buf_after) (joined _ _ _ _ _ _ _ _ (c.put_at-j.ensures.value, c.put_at-j.ensures.buf_after) (c.put_cells.ensures.value, c.put_cells.ensures.buf_after)) in
+    record { value = h.0; text_after = h.1 }

@@ -10,13 +10,10 @@ use Rattle.run.proofs.Running.{few}
 use Rattle.run.proofs.ran.Goals as goal
 
 pub slice_bounds-store-end : goal.slice_bounds-store-end
-slice_bounds-store-end c = let h : c.args.cells ≤ 2048 = few c.args.file.now (λ i. omega (arith, c.shared_slice_known-1.given i)) c.args.cells c.requires in
+slice_bounds-store-end c = let h : c.args.cells ≤ 2048 = few c.args.file.now (λ i. omega (arith, c.type_inv.file i)) c.args.cells c.requires in
     let e : length c.zeros-store.result ≡ 2048 = ap length c.zeros-store.ensures ∙ length_noughts 2048 in
     omega (arith, h, e)
 
-pub slice_bounds-walked-end : goal.slice_bounds-walked-end
-slice_bounds-walked-end c = sym (length-take-le _ _ (slice_bounds-store-end c))
-
 pub walked-requires : goal.walked-requires
-walked-requires c = let h : c.args.cells ≤ 2048 = few c.args.file.now (λ i. omega (arith, c.shared_slice_known-1.given i)) c.args.cells c.requires in
+walked-requires c = let h : c.args.cells ≤ 2048 = few c.args.file.now (λ i. omega (arith, c.type_inv.file i)) c.args.cells c.requires in
     (c.args.cells, ap (take c.args.cells) c.zeros-store.ensures ∙ zeros c.args.cells 2048 h, c.requires)

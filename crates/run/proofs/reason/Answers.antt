@@ -4,7 +4,7 @@ use Rattle.machine.proofs.Giving.{done_gives, refused_gives}
 use Rattle.run.proofs.reason.Goals as goal
 
 pub returns-in-Done : goal.returns-in-Done
-returns-in-Done c n k g = (done_gives c.in-Done.is.1 g).0
+returns-in-Done c n k g = (done_gives c.in-Done.is g).0
 
 pub returns-in-Refused : goal.returns-in-Refused
-returns-in-Refused c n k g = (refused_gives c.in-Refused.is.1 g).0
+returns-in-Refused c n k g = (refused_gives c.in-Refused.is g).0

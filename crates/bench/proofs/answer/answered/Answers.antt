@@ -12,9 +12,6 @@ pub slice_bounds-store-end : goal.slice_bounds-store-end
 slice_bounds-store-end c = let e : length c.zeros-store.result ≡ 2048 = ap length c.zeros-store.ensures ∙ length_noughts 2048 in
     omega (arith, c.cells_of-cells.ensures.few, e)
 
-pub slice_bounds-opened-end : goal.slice_bounds-opened-end
-slice_bounds-opened-end c = sym (length-take-le _ _ (slice_bounds-store-end c))
-
 pub opened-requires : goal.opened-requires
 opened-requires c = λ t A. length-take-le _ _ (slice_bounds-store-end c) ∙ c.cells_of-cells.ensures.cells_are t A
 

@@ -5,7 +5,7 @@ use Rattle.bench.proofs.Answering.{cells_none, cells_some}
 use Rattle.bench.proofs.answer.cells_of.Goals as goal
 
 pub returns-in-Refused : goal.returns-in-Refused
-returns-in-Refused c = cells_none (λ i. omega (arith, c.shared_slice_known-1.given i)) c.check.ensures c.in-Refused.is.1
+returns-in-Refused c = cells_none (λ i. omega (arith, c.type_inv.file i)) c.check.ensures c.in-Refused.is
 
 pub returns-in-Accepted : goal.returns-in-Accepted
-returns-in-Accepted c = cells_some (λ i. omega (arith, c.shared_slice_known-1.given i)) c.check.ensures c.in-Accepted.is.1
+returns-in-Accepted c = cells_some (λ i. omega (arith, c.type_inv.file i)) c.check.ensures c.in-Accepted.is

@@ -7,9 +7,9 @@ use Rattle.bench.proofs.Answering.{tells_refused, tells_accepted}
 use Rattle.bench.proofs.answer.checked.Goals as goal
 
 pub returns-in-Refused : goal.returns-in-Refused
-returns-in-Refused c = answers.Checks.refused (refused_of_lem _ c.check.result _ _ c.check.ensures c.in-Refused.is.1)
-    (tells_refused c.args.text.now c.Put-refused.new.0 c.Put-refused.result c.in-Refused.is.0.0 c.in-Refused.is.0.1.0 (search rules) c.Put-refused.ensures)
+returns-in-Refused c = answers.Checks.refused (refused_of_lem _ c.check.result _ _ c.check.ensures c.in-Refused.is)
+    (tells_refused c.args.text.now c.put_refused.new.buf c.put_refused.result c.in-Refused.number c.in-Refused.label (search rules) (c.put_refused.ensures.value, c.put_refused.ensures.buf_after))
 
 pub returns-in-Accepted : goal.returns-in-Accepted
-returns-in-Accepted c = answers.accepted (accepted_counts _ c.check.result c.check.ensures _ _ _ c.in-Accepted.is.1)
-    (tells_accepted c.args.text.now c.put_accepted.new.0 _ _ _ _ (search rules) c.put_accepted.ensures)
+returns-in-Accepted c = answers.accepted (accepted_counts _ c.check.result c.check.ensures _ _ _ c.in-Accepted.is)
+    (tells_accepted c.args.text.now c.put_accepted.new.buf _ _ _ _ (search rules) (c.put_accepted.ensures.value, c.put_accepted.ensures.buf_after))

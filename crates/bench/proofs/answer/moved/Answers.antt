@@ -5,7 +5,7 @@ use Rattle.bench.proofs.Answering.{goes, moves}
 use Rattle.bench.proofs.answer.moved.Goals as goal
 
 pub saved-requires : goal.saved-requires
-saved-requires c = goes (λ i. omega (arith, c.shared_slice_known-1.given i)) c.args.back c.requires c.went-went.ensures
+saved-requires c = goes (λ i. omega (arith, c.type_inv.file i)) c.args.back c.requires c.went-went.ensures
 
 pub returns : goal.returns
 returns c = moves c.went-went.ensures c.reason.ensures c.saved.ensures c.put_moved-said.ensures

@@ -9,7 +9,7 @@ pub returns : goal.returns
 returns c = record {
   told = c.save-s.result.told;
   session = c.save-s.ensures;
-  done = saves_done (λ i. omega (arith, c.shared_slice_known-1.given i)) (search rules) c.requires c.save-s.ensures;
+  done = saves_done (λ i. omega (arith, c.type_inv.file i)) (search rules) c.requires c.save-s.ensures;
   said = refl;
   right = refl;
 }

@@ -7,10 +7,10 @@ use Rattle.bench.proofs.Answering.{started_room}
 use Rattle.bench.proofs.answer.started.Goals as goal
 
 pub begun-requires : goal.begun-requires
-begun-requires c = (_, _, accepted_counts _ c.check.result c.check.ensures _ _ _ c.in-Accepted.is.1)
+begun-requires c = (_, _, accepted_counts _ c.check.result c.check.ensures _ _ _ c.in-Accepted.is)
 
 pub returns-in-Refused : goal.returns-in-Refused
-returns-in-Refused c = let x = answers.Starts.refused (refused_of_lem _ c.check.result _ _ c.check.ensures c.in-Refused.is.1) (c.refused.ensures c.args.buffer.now) in
+returns-in-Refused c = let x = answers.Starts.refused (refused_of_lem _ c.check.result _ _ c.check.ensures c.in-Refused.is) (c.refused.ensures c.args.buffer.now) in
     (x, started_room x)
 
 pub returns-in-Accepted : goal.returns-in-Accepted

@@ -5,8 +5,6 @@ use borrow.Author.Rules.{rules}
 use Rattle.bench.proofs.Answering.{checks_room}
 use Rattle.bench.proofs.shell.check.Goals as goal
 
-pub slice_bounds-say-end-2 : goal.slice_bounds-say-end-2
-slice_bounds-say-end-2 c = checks_room c.checked-n.ensures
+pub slice_bounds-say-end : goal.slice_bounds-say-end
+slice_bounds-say-end c = checks_room c.checked-n.ensures
 
-pub say-requires : goal.say-requires
-say-requires c = sym (length-take-le _ _ (slice_bounds-say-end-2 c))
