@@ -13,7 +13,8 @@ slice_bounds-store-end c = let e : length c.zeros-store.result ≡ 2048 = ap len
     omega (arith, c.cells_of-cells.ensures.few, e)
 
 pub opened-requires : goal.opened-requires
-opened-requires c = λ t A. length-take-le _ _ (slice_bounds-store-end c) ∙ c.cells_of-cells.ensures.cells_are t A
+opened-requires c = let e : length c.zeros-store.result ≡ 2048 = ap length c.zeros-store.ensures ∙ length_noughts 2048 in
+    λ t A. length-take-le _ _ (omega (arith, c.cells_of-cells.ensures.few, e)) ∙ c.cells_of-cells.ensures.cells_are t A
 
 pub returns : goal.returns
-returns c = (c.opened.ensures, answered_room c.opened.ensures)
+returns c = record { answers = c.opened.ensures; room = answered_room c.opened.ensures }

@@ -13,6 +13,11 @@ slice_bounds-store-end c = let h = few (λ i. omega (arith, c.type_inv.file i)) 
     let e : length c.zeros-store.result ≡ 2048 = ap length c.zeros-store.ensures ∙ length_noughts 2048 in
     omega (arith, h, e)
 
+pub slice_bounds-saved-end : goal.slice_bounds-saved-end
+slice_bounds-saved-end c = let h = few (λ i. omega (arith, c.type_inv.file i)) c.requires in
+    let e : length c.zeros-store.result ≡ 2048 = ap length c.zeros-store.ensures ∙ length_noughts 2048 in
+    sym (length-take-le _ _ (omega (arith, h, e)))
+
 pub saved-requires : goal.saved-requires
 saved-requires c = let n = c.args.cells in
     stands_start (λ i. omega (arith, c.type_inv.file i)) c.requires c.start-r.ensures

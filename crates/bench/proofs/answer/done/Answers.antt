@@ -13,7 +13,7 @@ pub returns-in-Move : goal.returns-in-Move
 returns-in-Move c = deed c.in-Move.is c.moved.ensures
 
 pub returns-in-Set : goal.returns-in-Set
-returns-in-Set c = deed c.in-Set.is (rw (to_z-of_z {w = w32} {z = c.in-Set.is.0.1.0} (record { sfits = c.known_told-in-Set-1.given.1.0.1 })) at (c.set.ensures c.args.text.now))
+returns-in-Set c = deed c.in-Set.is (rw (to_z-of_z {w = w32} {z = c.in-Set.value} (search rules)) at (c.set.ensures c.args.text.now))
 
 pub returns-in-Show : goal.returns-in-Show
 returns-in-Show c = deed c.in-Show.is (answers.shows (c.shown.ensures c.args.buffer.now))

@@ -11,7 +11,7 @@ begun-requires c = (_, _, accepted_counts _ c.check.result c.check.ensures _ _ _
 
 pub returns-in-Refused : goal.returns-in-Refused
 returns-in-Refused c = let x = answers.Starts.refused (refused_of_lem _ c.check.result _ _ c.check.ensures c.in-Refused.is) (c.refused.ensures c.args.buffer.now) in
-    (x, started_room x)
+    record { starts = x; room = started_room x }
 
 pub returns-in-Accepted : goal.returns-in-Accepted
-returns-in-Accepted c = (c.begun.ensures, started_room c.begun.ensures)
+returns-in-Accepted c = record { starts = c.begun.ensures; room = started_room c.begun.ensures }

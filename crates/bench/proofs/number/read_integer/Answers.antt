@@ -15,5 +15,5 @@ pub returns-then-n-word : goal.returns-then-n-word
 returns-then-n-word c = search numbers
 
 pub returns : goal.returns
-returns c = let n = rw (to_z-of_z {w = w64} {z = c.read_signed-n.result.value} (record { sfits = c.struct_told-1.given.0.1 })) at c.narrow.ensures in
+returns c = let n = rw (to_z-of_z {w = w64} {z = c.read_signed-n.result.value} (search rules)) at c.narrow.ensures in
     integer_is _ c.if-word-eq0.false c.longest.result c.longest.ensures c.if-word-longest.false c.read_signed-n.result.next c.read_signed-n.ensures.next_value c.read_signed-n.result.value c.narrow.result c.if-n-word.false c.read_signed-n.ensures.value_value n
