@@ -2,7 +2,8 @@
 # Builds the library and the three C programs with the kit's own clang and linker, and runs them: desk_checks counts its checks, desk_stack
 # walks every example on threads with the stack that ladrukhi.h names, and desk walks every example to its end and back, held to what the
 # second program's `run` and `start` print. Last line: 'desk: K checks passed'.
-# It needs `rt` and second/target/release/second. On Arm the programs run under the kit's emulator.
+# It needs `rt` and second/target/release/second. On Arm the programs run under the kit's emulator. Given an archive, as the gate's own
+# `rt ci` has just built it, it takes that; else it builds one.
 set -Eeuo pipefail
 cd "$(dirname "${BASH_SOURCE[0]}")/.."
 kit=$(dirname "$(rt doc)")
@@ -11,7 +12,10 @@ second=$PWD/second/target/release/second
 room=$(mktemp -d)
 trap 'rm -rf "$room"' EXIT
 
-(cd crates/desk && rt lib) >"$room/said" 2>&1 || { cat "$room/said"; exit 1; }
+if [ $# -eq 0 ]; then
+    (cd crates/desk_c && rt lib) >"$room/said" 2>&1 || { cat "$room/said"; exit 1; }
+fi
+cp "${1:-crates/desk_c/out/libdesk_c.a}" "$room/libdesk.a"
 
 # the kit's clang brings no headers of its own: the few declarations that the programs use
 mkdir "$room/std"
@@ -58,7 +62,7 @@ H
 
 build() {
     "$tools/bin/clang" --target=x86_64-unknown-linux-gnu -std=c11 -O2 -fPIC -Wall -Wextra -Werror -nostdinc -isystem "$room/std" -Iinclude -c "examples/$1.c" -o "$room/$1.o"
-    "$kit/bin/rattle-link" --target x86_64-unknown-linux-gnu --toolchain "$tools" -o "$room/$1" "$room/$1.o" crates/desk/out/libdesk.a 2>"$room/said" || { cat "$room/said"; exit 1; }
+    "$kit/bin/rattle-link" --target x86_64-unknown-linux-gnu --toolchain "$tools" -o "$room/$1" "$room/$1.o" "$room/libdesk.a" 2>"$room/said" || { cat "$room/said"; exit 1; }
 }
 emulator=
 if [ -x "$tools/bin/qemu-x86_64" ]; then emulator=$tools/bin/qemu-x86_64; fi

@@ -1,4 +1,4 @@
-// The desk: one current session, lent and moved; and what C calls. Every function is total.
+// The desk: one current session, lent and moved. Every function is total. What C calls stands in `desk_c`.
 #![tactic(auto)]
 
 ghost use Rattle.std.specs.Prelude.{◌≡◌, ◌≤◌, pos, length, replicate};
@@ -281,8 +281,7 @@ pub fn saving(file: &[u8], session: Session, buffer: &mut [u8]) -> Answer
 }
 
 // What a check of the file tells.
-#[unsafe(no_mangle)]
-pub extern "C" fn ladrukhi_check(file: &[u8]) -> Counts
+pub fn ladrukhi_check(file: &[u8]) -> Counts
     ensures { CheckSays file.now result }
 {
     match program::check(file) {
@@ -303,11 +302,10 @@ pub extern "C" fn ladrukhi_check(file: &[u8]) -> Counts
     }
 }
 
-// ---- over a session that is lent, for C too: the session is copied, moved by value and stored
+// ---- over a session that is lent: the session is copied, moved by value and stored
 
 // A start of the program, 0 down, else up.
-#[unsafe(no_mangle)]
-pub extern "C" fn ladrukhi_start(file: &[u8], session: &mut Session, direction: u32) -> Answer
+pub fn ladrukhi_start(file: &[u8], session: &mut Session, direction: u32) -> Answer
     ensures { BeginSays file.now session.old direction (made result session.new) }
 {
     let o = started(file, *session, direction);
@@ -316,8 +314,7 @@ pub extern "C" fn ladrukhi_start(file: &[u8], session: &mut Session, direction: 
 }
 
 // The session of a session file.
-#[unsafe(no_mangle)]
-pub extern "C" fn ladrukhi_open(file: &[u8], saved: &[u8], session: &mut Session) -> Answer
+pub fn ladrukhi_open(file: &[u8], saved: &[u8], session: &mut Session) -> Answer
     ensures { OpenSays file.now saved.now session.old (made result session.new) }
 {
     let o = opened(file, saved, *session);
@@ -326,8 +323,7 @@ pub extern "C" fn ladrukhi_open(file: &[u8], saved: &[u8], session: &mut Session
 }
 
 // A step forward.
-#[unsafe(no_mangle)]
-pub extern "C" fn ladrukhi_step(file: &[u8], session: &mut Session) -> Answer
+pub fn ladrukhi_step(file: &[u8], session: &mut Session) -> Answer
     ensures { SteppedSays step file.now session.old (made result session.new) }
 {
     let o = stepped(file, *session);
@@ -336,8 +332,7 @@ pub extern "C" fn ladrukhi_step(file: &[u8], session: &mut Session) -> Answer
 }
 
 // A step back.
-#[unsafe(no_mangle)]
-pub extern "C" fn ladrukhi_back(file: &[u8], session: &mut Session) -> Answer
+pub fn ladrukhi_back(file: &[u8], session: &mut Session) -> Answer
     ensures { SteppedSays step_back file.now session.old (made result session.new) }
 {
     let o = stepped_back(file, *session);
@@ -346,8 +341,7 @@ pub extern "C" fn ladrukhi_back(file: &[u8], session: &mut Session) -> Answer
 }
 
 // At most n steps forward.
-#[unsafe(no_mangle)]
-pub extern "C" fn ladrukhi_run(file: &[u8], session: &mut Session, n: u32) -> Answer
+pub fn ladrukhi_run(file: &[u8], session: &mut Session, n: u32) -> Answer
     ensures { RanSays run file.now session.old n (made result session.new) }
 {
     let o = ran(file, *session, n);
@@ -356,8 +350,7 @@ pub extern "C" fn ladrukhi_run(file: &[u8], session: &mut Session, n: u32) -> An
 }
 
 // At most n steps back.
-#[unsafe(no_mangle)]
-pub extern "C" fn ladrukhi_run_back(file: &[u8], session: &mut Session, n: u32) -> Answer
+pub fn ladrukhi_run_back(file: &[u8], session: &mut Session, n: u32) -> Answer
     ensures { RanSays run_back file.now session.old n (made result session.new) }
 {
     let o = ran_back(file, *session, n);
@@ -366,8 +359,7 @@ pub extern "C" fn ladrukhi_run_back(file: &[u8], session: &mut Session, n: u32) 
 }
 
 // The session file of the session, into the buffer.
-#[unsafe(no_mangle)]
-pub extern "C" fn ladrukhi_save(file: &[u8], session: &Session, buffer: &mut [u8]) -> Answer
+pub fn ladrukhi_save(file: &[u8], session: &Session, buffer: &mut [u8]) -> Answer
     ensures { SavingSays file.now session.now buffer.old result buffer.new }
 {
     saving(file, *session, buffer)
