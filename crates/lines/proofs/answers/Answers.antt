@@ -10,7 +10,7 @@ use Rattle.lines.proofs.Counting.{Counted, none, one_more, all}
 use Rattle.lines.proofs.answers.Goals as goal
 
 pub loop-at-init : goal.loop-at-init
-loop-at-init c = (
+loop-at-init g c = (
   search rules,
   search rules,
   omega arith,
@@ -18,34 +18,22 @@ loop-at-init c = (
   none _,
 )
 
-pub slice_bounds-file-end : goal.slice_bounds-file-end
-slice_bounds-file-end c = search rules
-
-pub slice_bounds-moved-end : goal.slice_bounds-moved-end
-slice_bounds-moved-end c = sym (length-take-le _ _ (slice_bounds-file-end c))
-
-pub slice_bounds-store-end : goal.slice_bounds-store-end
-slice_bounds-store-end c = search rules
-
-pub slice_bounds-moved-end-in-loop-at : goal.slice_bounds-moved-end-in-loop-at
-slice_bounds-moved-end-in-loop-at c = sym (length-take-le _ _ (slice_bounds-store-end c))
-
 pub overflow_add-count : goal.overflow_add-count
-overflow_add-count c = omega (arith, c.loop-at.invariant.4.few, c.loop-at-test.true)
+overflow_add-count g c = omega (arith, c.loop-at.invariant.4.few, c.loop-at-test.true)
 
 pub loop-at-smaller : goal.loop-at-smaller
-loop-at-smaller c = falls _ c.loop-at.at c.next_line-at.result c.loop-at-test.true c.next_line-at.ensures
+loop-at-smaller g c = falls _ c.loop-at.at c.next_line-at.result c.loop-at-test.true c.next_line-at.ensures
 
 pub loop-at-preserved : goal.loop-at-preserved
-loop-at-preserved c = let b = c.stored-cells.new.1.1.0 in
-    let e : length b ≡ 2200 = c.stored-cells.auto.1.1.0 ∙ sym c.loop-at.invariant.1 in
-    let f : length c.programmed-size.new.1.1.0 ≡ 33000 = c.programmed-size.auto.1.1.0 ∙ sym c.loop-at.invariant.0 in (
+loop-at-preserved g c = let b = c.stored-cells.new.store in
+    let e : length b ≡ 2200 = c.stored-cells.auto.store ∙ sym c.loop-at.invariant.1 in
+    let f : length c.programmed-size.new.file ≡ 33000 = c.programmed-size.auto.file ∙ sym c.loop-at.invariant.0 in (
       sym f,
-      sym (length_front b c.moved-place.new.1.1.1.0 c.stored-cells.result c.moved-place.auto.1.1.1.0 ∙ e),
+      sym (length_front b c.moved-place.new.store c.stored-cells.result c.moved-place.auto.store ∙ e),
       omega (arith, f, c.programmed-size.ensures),
       omega (arith, e, c.stored-cells.ensures),
       one_more _ c.loop-at.at c.loop-at.count c.next_line-at.result c.loop-at-test.true c.next_line-at.ensures c.loop-at.invariant.4,
     )
 
 pub returns : goal.returns
-returns c = all _ _ _ c.loop-at-test.false c.loop-at.invariant.4
+returns g c = all _ _ _ c.loop-at-test.false c.loop-at.invariant.4

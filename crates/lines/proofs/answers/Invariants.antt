@@ -10,7 +10,7 @@ use Rattle.lines.proofs.Counting.{Counted, none, one_more, all}
 use Rattle.lines.proofs.answers.Given as goal
 
 abbrev pub invariant-loop-at : goal.invariant-loop-at
-invariant-loop-at l = (33000 ≡ length l.file) × (2200 ≡ length l.store) × (l.size ≤ 33000) × (l.cells ≤ 2200) × Counted l.s l.at l.count
+invariant-loop-at g l = (33000 ≡ length l.file) × (2200 ≡ length l.store) × (l.size ≤ 33000) × (l.cells ≤ 2200) × Counted l.s l.at l.count
 
 abbrev pub decreases-loop-at : goal.decreases-loop-at
-decreases-loop-at l = length l.s - l.at
+decreases-loop-at g l = length l.s - l.at

@@ -4,12 +4,8 @@ use lib.ListN.{length}
 use borrow.Author.Rules.{rules}
 use Rattle.lines.proofs.tell.cells.Given as goal
 
--- ?? params ['store', 'i₀', 't4', 'i'] of ['store', 'i'] [False, True]
-
 abbrev pub invariant-loop-i : goal.invariant-loop-i
-invariant-loop-i l = i ≤ length store
-
--- ?? params ['store', 'i₀', 't4', 'i'] of ['store', 'i'] [False, True]
+invariant-loop-i g l = l.i ≤ length l.store
 
 abbrev pub decreases-loop-i : goal.decreases-loop-i
-decreases-loop-i l = length store - i
+decreases-loop-i g l = length l.store - l.i

@@ -4,7 +4,7 @@ use borrow.Author.Rules.{rules}
 use Rattle.lines.proofs.tell.frames.Given as goal
 
 abbrev pub invariant-loop-i : goal.invariant-loop-i
-invariant-loop-i l = l.i ≤ 1104
+invariant-loop-i g l = l.i ≤ 1104
 
 abbrev pub decreases-loop-i : goal.decreases-loop-i
-decreases-loop-i l = l.i
+decreases-loop-i g l = l.i
