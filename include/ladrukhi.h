@@ -1,5 +1,5 @@
 /* Ladrukhi from C: check a program file, walk a session of it, open and save sessions.
-   The library is target/staticlib/libdesk.a (`rt staticlib desk`), for x86-64 Linux. It allocates nothing and keeps no state of
+   The library is libdesk.a (`rt lib` in crates/desk_c writes out/libdesk_c.a: copy it to that name), for x86-64 Linux. It allocates nothing and keeps no state of
    its own: any number of sessions at once, in any threads, one thread to a session.
 
    What a caller owes:
@@ -29,7 +29,7 @@ extern "C" {
 #define LADRUKHI_FRAMES 1104         /* a place has at most so many */
 #define LADRUKHI_CELLS 2048          /* a store has at most so many */
 #define LADRUKHI_SAVED_BYTES 12624   /* a saved session has at most so many; a buffer of this size never is too short */
-#define LADRUKHI_STACK_BYTES 262144  /* a thread with a stack of so many can make every call; the most that one took is about 237,000 (the gate measures it) */
+#define LADRUKHI_STACK_BYTES 262144  /* a thread with a stack of so many can make every call; the most that one took is about 230,000 (the gate measures it) */
 
 #define LADRUKHI_DOWN 0
 #define LADRUKHI_UP 1

@@ -21,6 +21,7 @@ fn least(a: usize, b: usize) -> usize
 }
 
 // The first 32,784 bytes of a file, with zeros behind.
+#[inline(never)]
 pub fn padded(file: &[u8]) -> [u8; 32784]
     ensures { result ≡ pad_to 32784 file.now }
 {
@@ -35,6 +36,7 @@ pub fn padded(file: &[u8]) -> [u8; 32784]
 }
 
 // The first 2,048 cells of a store, with zeros behind.
+#[inline(never)]
 pub fn widened(store: &[i32]) -> [i32; 2048]
     ensures { result ≡ widen_to 2048 store.now }
 {

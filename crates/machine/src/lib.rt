@@ -62,6 +62,7 @@ fn stays(number: u8, label: usize, place: Place) -> Ran
 }
 
 // The steps, on copies of the file and the store; the cells are copied back.
+#[inline(never)]
 fn went(
     file: &[u8],
     table: &[u16; 9344],
@@ -84,6 +85,7 @@ fn went(
 }
 
 // A run of a program that is accepted: 20, 21, then the steps.
+#[inline(never)]
 fn checked(
     file: &[u8],
     records: usize,

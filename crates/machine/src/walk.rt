@@ -86,6 +86,7 @@ const MADE: u8 = 0;
 
 // At most n steps from a place of which so many frames are calls. In the loop the place is taken apart, so that all but the
 // frames stays in registers; the calls and the frames are counted in one number for that.
+#[inline(never)]
 pub(crate) fn go(
     bytes: &[u8; 32784],
     map: &[u16; 14336],

@@ -222,6 +222,7 @@ fn least(a: usize, b: usize) -> usize
 }
 
 // The entries of the first n labels; the rest is 0.
+#[inline(never)]
 pub fn map(file: &[u8], table: &[u16; 9344], n: usize) -> [u16; 14336]
     ensures { Maps file.now table.now n result }
 {
