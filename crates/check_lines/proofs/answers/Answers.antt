@@ -7,4 +7,4 @@ use Rattle.words.proofs.Lines.{falls}
 use Rattle.check_lines.proofs.answers.Goals as goal
 
 pub loop-at-smaller : goal.loop-at-smaller
-loop-at-smaller c = search (rules, falls)
+loop-at-smaller g c = search (rules, falls)

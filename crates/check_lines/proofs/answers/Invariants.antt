@@ -7,7 +7,7 @@ use Rattle.words.proofs.Lines.{falls}
 use Rattle.check_lines.proofs.answers.Given as goal
 
 abbrev pub invariant-loop-at : goal.invariant-loop-at
-invariant-loop-at l = 33000 ≡ length l.file
+invariant-loop-at g l = 33000 ≡ length l.file
 
 abbrev pub decreases-loop-at : goal.decreases-loop-at
-decreases-loop-at l = length l.s - l.at
+decreases-loop-at g l = length l.s - l.at

@@ -7,11 +7,5 @@ use lib.Seq.{length-take-le}
 use borrow.Author.Rules.{rules}
 use Rattle.check_speed.proofs.recheck.Goals as goal
 
-pub slice_bounds-file-end : goal.slice_bounds-file-end
-slice_bounds-file-end c = simp length-set (omega arith)
-
-pub slice_bounds-check-end : goal.slice_bounds-check-end
-slice_bounds-check-end c = sym (length-take-le _ _ (simp length-set (omega arith)))
-
 pub loop-left-preserved : goal.loop-left-preserved
-loop-left-preserved c = (omega arith, simp length-set (omega arith))
+loop-left-preserved g c = (omega arith, simp length-set (omega arith))

@@ -8,7 +8,7 @@ use borrow.Author.Rules.{rules}
 use Rattle.check_speed.proofs.recheck.Given as goal
 
 abbrev pub invariant-loop-left : goal.invariant-loop-left
-invariant-loop-left l = (l.accepted + l.left ≤ 20000) × (length l.file ≡ 65536)
+invariant-loop-left g l = (l.accepted + l.left ≤ 20000) × (length l.file ≡ 65536)
 
 abbrev pub decreases-loop-left : goal.decreases-loop-left
-decreases-loop-left l = l.left
+decreases-loop-left g l = l.left

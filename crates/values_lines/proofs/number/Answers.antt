@@ -7,4 +7,4 @@ use Rattle.words.proofs.Writing.{stays}
 use Rattle.values_lines.proofs.number.Goals as goal
 
 pub returns : goal.returns
-returns c = stays c.args.out.now c.put_signed.new.0 (signed_decimal (to_z w64 (of_z w64 c.args.v))) c.args.at c.put_signed.result c.requires c.put_signed.ensures.0 c.put_signed.auto.0
+returns c = stays c.args.out.now c.put_signed.new.buf (signed_decimal (to_z w64 (of_z w64 c.args.v))) c.args.at c.put_signed.result c.requires c.put_signed.ensures.value c.put_signed.auto.buf
