@@ -2,8 +2,7 @@
 # Builds the library and the three C programs with the kit's own clang and linker, and runs them: desk_checks counts its checks, desk_stack
 # walks every example on threads with the stack that ladrukhi.h names, and desk walks every example to its end and back, held to what the
 # second program's `run` and `start` print. Last line: 'desk: K checks passed'.
-# It needs `rt` and second/target/release/second. On Arm the programs run under the kit's emulator. Given an archive, as the gate's own
-# `rt ci` has just built it, it takes that; else it builds one.
+# It needs `rt` and second/target/release/second. On Arm the programs run under the kit's emulator.
 set -Eeuo pipefail
 cd "$(dirname "${BASH_SOURCE[0]}")/.."
 kit=$(dirname "$(rt doc)")
@@ -12,10 +11,8 @@ second=$PWD/second/target/release/second
 room=$(mktemp -d)
 trap 'rm -rf "$room"' EXIT
 
-if [ $# -eq 0 ]; then
-    (cd crates/desk_c && rt lib) >"$room/said" 2>&1 || { cat "$room/said"; exit 1; }
-fi
-cp "${1:-crates/desk_c/out/libdesk_c.a}" "$room/libdesk.a"
+(cd crates/desk_c && rt lib) >"$room/said" 2>&1 || { cat "$room/said"; exit 1; }
+cp crates/desk_c/out/libdesk_c.a "$room/libdesk.a"
 
 # the kit's clang brings no headers of its own: the few declarations that the programs use
 mkdir "$room/std"

@@ -65,6 +65,9 @@ const BAD_NAMES: [&str; 6] = [
     "folder/../none",
 ];
 
+/// The system's number for bytes that are no text.
+const EILSEQ: i32 = 84;
+
 /// How many walks and commands were equal, and how often each first answer was met.
 pub struct Compared {
     walks: u32,
@@ -168,19 +171,44 @@ impl Pair {
 
     /// One command on both sides, and everything that it left.
     fn command(&self, words: &[OsString], compared: &mut Compared) -> io::Result<()> {
+        let before = content(&self.folders[1])?;
         let [second, bench] = [self.run(0, words)?, self.run(1, words)?];
         *compared.met.entry(first_answer(&second)).or_default() += 1;
         compared.commands += 1;
-        // A program in Rattle cannot set its exit status. It tells a name that is not text by its bytes.
+        // `bench` ends with 0, whatever it tells.
         let same = second.stdout == bench.stdout
             && as_bench(&second.stderr) == String::from_utf8_lossy(&bench.stderr)
             && bench.status.code() == Some(0)
             && content(&self.folders[0])? == content(&self.folders[1])?;
-        if same {
+        if same || self.refuses_name(words, &before, &bench)? {
             return Ok(());
         }
         let told = format!("{words:?} differs:\n{second:?}\n{bench:?}");
         Err(io::Error::other(told))
+    }
+
+    /// `bench` opens files by names that are text: another is the system's error for such bytes, and nothing else comes of it.
+    /// A file that this program made under that name goes again.
+    fn refuses_name(
+        &self,
+        words: &[OsString],
+        before: &BTreeMap<OsString, Vec<u8>>,
+        bench: &Output,
+    ) -> io::Result<bool> {
+        let mut names = words.iter().skip(1).take(2);
+        let Some(name) = names.find(|name| name.to_str().is_none()) else {
+            return Ok(false);
+        };
+        let made = self.folders[0].join(name);
+        if made.exists() {
+            fs::remove_file(made)?;
+        }
+        let why = io::Error::from_raw_os_error(EILSEQ);
+        let complaint = format!("bench: {}: {why}\n", name.to_string_lossy());
+        Ok(bench.stdout.is_empty()
+            && String::from_utf8_lossy(&bench.stderr) == complaint
+            && bench.status.code() == Some(0)
+            && content(&self.folders[1])? == *before)
     }
 
     fn run(&self, side: usize, words: &[OsString]) -> io::Result<Output> {

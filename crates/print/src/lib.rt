@@ -8,6 +8,15 @@ ghost use Rattle.print.specs.Lines.{pair, refused_line, steps_line, at_line, fra
 // Room for every text of `run` and `bench`: a place in at most 50 bytes, 1,104 frames and 2,048 cells in at most 48 each.
 pub const TEXT: usize = 151346;
 
+// The refusals below it, 1 to 8, tell a record.
+const NO_RECORD: u8 = 9;
+
+// The direction down, as a place has it.
+const DOWN: u8 = 0;
+
+// A cell that holds it gets no line.
+const UNSET: i32 = 0;
+
 // Two numbers with words before, between and after them.
 fn put_pair(
     buf: &mut [u8],
@@ -33,7 +42,7 @@ pub fn put_refused(buf: &mut [u8], at: usize, number: u8, label: usize) -> usize
     ensures value { result ≡ after_all buf.old at (refused_line number label) }
     ensures buf_after { buf.new ≡ put_all buf.old at (refused_line number label) }
 {
-    if number < 9 {
+    if number < NO_RECORD {
         return put_pair(
             buf,
             at,
@@ -70,7 +79,7 @@ pub fn put_at(buf: &mut [u8], at: usize, a: u16, b: u16, direction: u8) -> usize
     ensures value { result ≡ after_all buf.old at (at_line a b direction) }
     ensures buf_after { buf.new ≡ put_all buf.old at (at_line a b direction) }
 {
-    if direction == 0 {
+    if direction == DOWN {
         return put_pair(buf, at, b"at ", a as u64, b" ", b as u64, b" down\n");
     }
     put_pair(buf, at, b"at ", a as u64, b" ", b as u64, b" up\n")
@@ -145,7 +154,7 @@ fn put_cell(buf: &mut [u8], at: usize, i: usize, v: i32) -> usize
     ensures value { result ≡ after_all buf.old at (shown i v) }
     ensures buf_after { buf.new ≡ put_all buf.old at (shown i v) }
 {
-    if v == 0 {
+    if v == UNSET {
         return at;
     }
     put_value(buf, at, i, wide(v))
