@@ -8,6 +8,9 @@ ghost use Rattle.expr.specs.Answers.{end_of, name_of, seen_of, known_of};
 
 use codes::{byte, short};
 
+// The operators are 0 to 15.
+const OPERATORS: usize = 16;
+
 #[derive(Drop)]
 pub enum End {
     At(usize),
@@ -43,7 +46,7 @@ fn end_at(s: &[u8], at: usize, left: usize) -> End
     if tag != 3 {
         return End::Bad;
     }
-    if 16 <= byte(s, at + 1) {
+    if OPERATORS <= byte(s, at + 1) {
         return End::Bad;
     }
     match end_at(s, at + 2, left - 1) {

@@ -6,6 +6,9 @@ ghost use Rattle.fits.specs.Fits.{slot_at, entry_at, number_of, lost, start_of, 
 
 use place::Place;
 
+// At most so many frames are calls.
+const CALLS: usize = 64;
+
 // Where one stands on the way outward through the frames.
 #[derive(Drop)]
 struct Chain {
@@ -103,7 +106,7 @@ fn call(file: &[u8], table: &[u16; 9344], label: u16, c: Chain) -> Chain
     if wide(c.proc) != callee(file, table, label) {
         return lost();
     }
-    if 64 <= c.calls {
+    if CALLS <= c.calls {
         return lost();
     }
     Chain {

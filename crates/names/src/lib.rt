@@ -9,6 +9,9 @@ ghost use Rattle.names.specs.Names.{expr_at, there_scalar, there_array, there_se
 use records::reading::{calls, tests};
 use records::walk::{kind_at, stride};
 
+// The main body, which cannot be called.
+const MAIN: usize = 0;
+
 // The first record of which a pass says no.
 #[derive(Drop)]
 pub enum First {
@@ -65,7 +68,7 @@ fn there_call(file: &[u8], at: usize, p: usize) -> bool
     ensures { result ≡ there_call file.now at p }
 {
     let q = codes::short(file, at + 4);
-    if q == 0 {
+    if q == MAIN {
         return false;
     }
     q < p

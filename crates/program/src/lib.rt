@@ -11,6 +11,9 @@ use records::Walked;
 
 pub mod arrays;
 
+// A file has at most so many bytes.
+const BYTES: usize = 32768;
+
 // What the check answers: the counts of records, procedures and cells, or the number of the refusal and the record at fault.
 #[derive(Clone, Copy)]
 pub enum Checked {
@@ -100,7 +103,7 @@ fn after_walk(file: &[u8], walked: Walked) -> Checked
 pub fn check(file: &[u8]) -> Checked
     ensures { Says file.now (given result) }
 {
-    if 32768 < file.len() {
+    if BYTES < file.len() {
         return Checked::Refused(1, 0);
     }
     after_walk(file, records::reading::walk(file))

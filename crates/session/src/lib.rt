@@ -12,6 +12,12 @@ ghost use Rattle.session.specs.Answers.{is_found, place_of, cells_of, filled, si
 
 use place::Place;
 
+// A file has at most so many frames.
+const FRAMES: usize = 1104;
+
+// What stands behind the direction.
+const SPARE: usize = 0;
+
 // ---- reading
 
 // Whether what stands before the frames is as it must be, with room for the frames and four bytes more.
@@ -24,11 +30,11 @@ fn head_right(b: &[u8]) -> bool
     if 1 < codes::byte(b, 4) {
         return false;
     }
-    if codes::byte(b, 5) != 0 {
+    if codes::byte(b, 5) != SPARE {
         return false;
     }
     let n = codes::short(b, 10);
-    if 1104 < n {
+    if FRAMES < n {
         return false;
     }
     if codes::short(b, 0) != 12 + 4 * n {
@@ -185,7 +191,7 @@ pub fn get_cells(saved: &[u8], store: &mut [i32])
 pub fn size_of(count: usize, cells: usize) -> usize
     ensures { result ≡ size_of count cells }
 {
-    if 1104 < count {
+    if FRAMES < count {
         return 0;
     }
     if 16382 < cells {

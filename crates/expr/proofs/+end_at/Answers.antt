@@ -26,8 +26,8 @@ returns-then-tag-eq2 t c = search ends
 pub returns-then-tag-ne3 : goal.returns-then-tag-ne3
 returns-then-tag-ne3 t c = search ends
 
-pub returns-then-byte-ge16 : goal.returns-then-byte-ge16
-returns-then-byte-ge16 t c = search ends
+pub returns-then-byte-ge-OPERATORS : goal.returns-then-byte-ge-OPERATORS
+returns-then-byte-ge-OPERATORS t c = search ends
 
 pub returns-in-At : goal.returns-in-At
 returns-in-At t c = search ends

@@ -11,8 +11,8 @@ returns-then-not-call_kind c = search answers
 pub returns-then-wide-callee : goal.returns-then-wide-callee
 returns-then-wide-callee c = search answers
 
-pub returns-then-c-ge64 : goal.returns-then-c-ge64
-returns-then-c-ge64 c = search answers
+pub returns-then-c-ge-CALLS : goal.returns-then-c-ge-CALLS
+returns-then-c-ge-CALLS c = search answers
 
 pub returns : goal.returns
 returns c = search answers

@@ -6,8 +6,8 @@ use Rattle.program.proofs.CheckSays.{says_of}
 use borrow.Author.Rules.{rules}
 use Rattle.program.proofs.check.Goals as goal
 
-pub returns-then-file-gt32768 : goal.returns-then-file-gt32768
-returns-then-file-gt32768 c = says_of c.args.file.now (λ i. grind arith) (Refused 1 0) (search answers)
+pub returns-then-file-gt-BYTES : goal.returns-then-file-gt-BYTES
+returns-then-file-gt-BYTES c = says_of c.args.file.now (λ i. grind arith) (Refused 1 0) (search answers)
 
 pub returns : goal.returns
 returns c = says_of c.args.file.now (λ i. grind arith) c.after_walk.result (search answers)

@@ -9,11 +9,11 @@ returns-then-short-ne32 c = search heads
 pub returns-then-byte-gt1 : goal.returns-then-byte-gt1
 returns-then-byte-gt1 c = search heads
 
-pub returns-then-byte-ne0 : goal.returns-then-byte-ne0
-returns-then-byte-ne0 c = search heads
+pub returns-then-byte-ne-SPARE : goal.returns-then-byte-ne-SPARE
+returns-then-byte-ne-SPARE c = search heads
 
-pub returns-then-n-gt1104 : goal.returns-then-n-gt1104
-returns-then-n-gt1104 c = search heads
+pub returns-then-n-gt-FRAMES : goal.returns-then-n-gt-FRAMES
+returns-then-n-gt-FRAMES c = search heads
 
 pub returns-then-short-n : goal.returns-then-short-n
 returns-then-short-n c = search heads
