@@ -1,5 +1,7 @@
 -- What each command answers on the bytes that were read: the new session, and the text.
-use Rattle.std.specs.Prelude.{ℕ, ◌≤◌, ◌<◌, min, ◌≡◌, Bool, true, false, List, [], ◌++◌, ℤ, length, set}
+use Rattle.std.specs.Prelude.{ℕ, ◌≤◌, ◌<◌, min, ◌≡◌, Option, Some, None, Result, Ok, Err, List, [], ◌++◌, ℤ, length, set}
+use Rattle.refusals.specs.Numbers.{number_of}
+use Rattle.refusals.specs.declared.Refusal.{Refusal}
 use Rattle.place.specs.declared.Place.{Place as Held}
 use Rattle.place.specs.Held.{held}
 use Rattle.order.specs.Trees.{Tree, cells}
@@ -9,14 +11,14 @@ use Rattle.moves.specs.Places.{Dir, Place}
 use Rattle.moves.specs.Stores.{Store}
 use Rattle.moves.specs.Step.{start}
 use Rattle.moves.specs.Runs.{Ran, run, run_back}
-use Rattle.machine.specs.declared.Told.{Told}
-use Rattle.machine.specs.Answers.{Gives, RunSays}
+use Rattle.machine.specs.Answers.{RunSays}
 use Rattle.saved.specs.Answers.{ReadSays, SaveSays}
+use Rattle.print.specs.Told.{reason_of}
 use Rattle.print.specs.Zeros.{noughts}
 use Rattle.print.specs.Lines.{Text, refused_line, accepted_line, steps_line, at_line, frame_lines, cell_lines}
 use Rattle.bench.specs.declared.answer.Answer.{Answer}
 use Rattle.bench.specs.declared.command.Deed.{Deed}
-use Rattle.bench.specs.declared.command.Deed.TheVariants.{Move, Set, Show}
+use Rattle.bench.specs.declared.command.Deed.TheVariants.{Step, Back, Set, Show}
 
 -- `check`: the counts, or the refusal
 pub data Checks (f b c : List ℕ) (n : ℕ) : Type 0 where
@@ -25,18 +27,16 @@ pub data Checks (f b c : List ℕ) (n : ℕ) : Type 0 where
 
 -- No new session, and these lines: the buffer b and the text are b' and text' afterwards.
 pub record Tells (b text : List ℕ) (ws : List (List ℕ)) (r : Answer) (b' text' : List ℕ) : Type 0 where
-  pub none : r.written ≡ 0
+  pub none : r.written ≡ None
   pub kept : b' ≡ b
   pub lines : Text text ws text' r.said
-  pub right : r.wrong ≡ false
 
 -- The session of the place q and the store σ is saved, and these lines are said.
 pub record Keeps (f : List ℕ) (q : Held) (σ : Store) (b text : List ℕ) (ws : List (List ℕ)) (r : Answer) (b' text' : List ℕ) : Type 0 where
-  pub told : Told
-  pub session : SaveSays f q σ b told r.written b'
-  pub done : Gives told 0 0
+  pub size : ℕ
+  pub written : r.written ≡ Some size
+  pub session : SaveSays f q σ b (Ok size) b'
   pub lines : Text text ws text' r.said
-  pub right : r.wrong ≡ false
 
 -- `at A B down`
 abbrev pub place_line : Held → List (List ℕ)
@@ -53,24 +53,24 @@ pub data Starts (f : List ℕ) (d : Dir) (b text : List ℕ) (r : Answer) (b' te
   refused : {n k : ℕ} → program.Says f (fault n k) → Tells b text (refused_line n k) r b' text' → Starts f d b text r b' text'
   started : {t : Tree} → Accepts f t → Keeps f (held (start t d)) (noughts (cells t)) b text (place_line (held (start t d))) r b' text' → Starts f d b text r b' text'
 
--- `step` and `back`
-abbrev pub going : Bool → Tree → ℕ → Place → Store → Ran
-going false = run
-going true = run_back
+-- `step` and `back`: a run of n steps, which ended at the place q' with the store σ'
+pub data Moves (going : Tree → ℕ → Place → Store → Ran) (n : ℕ) (f : List ℕ) (q : Held) (σ : Store) (b text : List ℕ) (r : Answer) (b' text' : List ℕ) : Type 0 where
+  moves : {m : ℕ} {told : Result (Unit {0}) Refusal} {q' : Held} {σ' : Store} → RunSays going f q σ n told m q' σ'
+      → Keeps f q' σ' b text (moved_lines m (reason_of told) q') r b' text' → Moves going n f q σ b text r b' text'
 
--- The other commands, on a session that was read as the place q and the store σ.
-pub data Does (f : List ℕ) (q : Held) (σ : Store) (b text : List ℕ) (r : Answer) (b' text' : List ℕ) : Deed → Type 0 where
-  moves : {back : Bool} {n m reason k : ℕ} {told : Told} {q' : Held} {σ' : Store} → RunSays (going back) f q σ n told m q' σ' → Gives told reason k
-      → Keeps f q' σ' b text (moved_lines m reason q') r b' text' → Does f q σ b text r b' text' (Move back n)
-  sets : {i : ℕ} {v : ℤ} → i < length σ → Keeps f q (set σ i v) b text [] r b' text' → Does f q σ b text r b' text' (Set i v)
-  not_there : {i : ℕ} {v : ℤ} → length σ ≤ i → r ≡ record { written = 0; said = 0; wrong = true } → b' ≡ b → text' ≡ text → Does f q σ b text r b' text' (Set i v)
-  shows : Tells b text (shown_lines q σ) r b' text' → Does f q σ b text r b' text' Show
+-- The other commands, on a session that was read as the place q and the store σ; none where the words were wrong after all.
+pub data Does (f : List ℕ) (q : Held) (σ : Store) (b text : List ℕ) (r : Option Answer) (b' text' : List ℕ) : Deed → Type 0 where
+  steps : {n : ℕ} {a : Answer} → r ≡ Some a → Moves run n f q σ b text a b' text' → Does f q σ b text r b' text' (Step n)
+  backs : {n : ℕ} {a : Answer} → r ≡ Some a → Moves run_back n f q σ b text a b' text' → Does f q σ b text r b' text' (Back n)
+  sets : {i : ℕ} {v : ℤ} {a : Answer} → i < length σ → r ≡ Some a → Keeps f q (set σ i v) b text [] a b' text' → Does f q σ b text r b' text' (Set i v)
+  not_there : {i : ℕ} {v : ℤ} → length σ ≤ i → r ≡ None → b' ≡ b → text' ≡ text → Does f q σ b text r b' text' (Set i v)
+  shows : {a : Answer} → r ≡ Some a → Tells b text (shown_lines q σ) a b' text' → Does f q σ b text r b' text' Show
 
 -- The store σ that is lent for a session's cells has the program's size.
 abbrev pub Lent : List ℕ → Store → Type 0
 Lent f σ = (t : Tree) → Accepts f t → length σ ≡ cells t
 
-pub data Answers (c : Deed) (f s b text : List ℕ) (r : Answer) (b' text' : List ℕ) : Type 0 where
-  unread : {told : Told} {n k : ℕ} {q : Held} {σ σ' : Store} → Lent f σ → ReadSays f s σ told q σ' → Gives told n k → 0 < n → Tells b text (refused_line n k) r b' text'
+pub data Answers (c : Deed) (f s b text : List ℕ) (r : Option Answer) (b' text' : List ℕ) : Type 0 where
+  unread : (e : Refusal) {a : Answer} {σ σ' : Store} → Lent f σ → ReadSays f s σ (Err e) σ' → r ≡ Some a → Tells b text (refused_line (number_of e.reason) e.label) a b' text'
       → Answers c f s b text r b' text'
-  found : {told : Told} {q : Held} {σ σ' : Store} → Lent f σ → ReadSays f s σ told q σ' → Gives told 0 0 → Does f q σ' b text r b' text' c → Answers c f s b text r b' text'
+  found : (q : Held) {σ σ' : Store} → Lent f σ → ReadSays f s σ (Ok q) σ' → Does f q σ' b text r b' text' c → Answers c f s b text r b' text'

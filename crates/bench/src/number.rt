@@ -1,71 +1,42 @@
-// The numbers of a command line: 1 to 10 digits, a minus before them only in a value, nothing else.
-ghost use Rattle.std.specs.Prelude.{◌≡◌, cond, eqb};
-ghost use Rattle.bench.specs.Numbers.{natural_of, narrowed, integer_of};
+// The numbers of a command line: 1 to 10 digits, a minus before them only in a value, nothing else. (`str::parse` also takes a plus.)
+ghost use Rattle.std.specs.Prelude.{◌≡◌, cond, Some, None};
+ghost use Rattle.bench.specs.Numbers.{whole, longest, natural_of, integer_of};
 
-#[derive(Drop)]
-pub enum Natural {
-    Is(u32),
-    Not,
-}
+use words::Number;
 
-#[derive(Drop)]
-pub enum Integer {
-    Is(i32),
-    Not,
-}
-
-fn narrow(v: i64) -> Integer
-    ensures { result ≡ narrowed v }
+// The number at the start of a word, where it is all of the word, and that has at most so many bytes.
+fn all<T: Copy>(word: &[u8], most: usize, n: Number<T>) -> Option<T>
+    ensures { result ≡ cond (whole word.now most n.next) (Some n.value) None }
 {
-    if v < -2147483648 {
-        return Integer::Not;
+    if word.is_empty() || word.len() > most || n.next != word.len() {
+        return None;
     }
-    if v > 2147483647 {
-        return Integer::Not;
-    }
-    Integer::Is(v as i32)
+    Some(n.value)
 }
 
 // Digits up to 4294967295.
-pub(crate) fn read_natural(word: &[u8]) -> Natural
+pub(crate) fn read_natural(word: &[u8]) -> Option<u32>
     ensures { result ≡ natural_of word.now }
 {
-    let n = words::read_digits(word, 0);
-    if word.len() == 0 {
-        return Natural::Not;
-    }
-    if word.len() > 10 {
-        return Natural::Not;
-    }
-    if n.next != word.len() {
-        return Natural::Not;
-    }
-    if n.value > 4294967295 {
-        return Natural::Not;
-    }
-    Natural::Is(n.value as u32)
+    let n = all(word, 10, words::read_digits(word, 0))?;
+    u32::try_from(n).ok()
 }
 
 // The length that digits with this beginning may have.
-fn longest(first: u8) -> usize
-    ensures { result ≡ cond (eqb first 45) 11 10 }
+fn longest(word: &[u8]) -> usize
+    ensures { result ≡ longest word.now }
 {
-    if first == b'-' { 11 } else { 10 }
+    if words::byte_at(word, 0) == b'-' {
+        11
+    } else {
+        10
+    }
 }
 
 // An optional minus and digits, within i32.
-pub(crate) fn read_integer(word: &[u8]) -> Integer
+pub(crate) fn read_integer(word: &[u8]) -> Option<i32>
     ensures { result ≡ integer_of word.now }
 {
-    if word.len() == 0 {
-        return Integer::Not;
-    }
-    if word.len() > longest(word[0]) {
-        return Integer::Not;
-    }
-    let n = words::read_signed(word, 0);
-    if n.next != word.len() {
-        return Integer::Not;
-    }
-    narrow(n.value)
+    let n = all(word, longest(word), words::read_signed(word, 0))?;
+    i32::try_from(n).ok()
 }

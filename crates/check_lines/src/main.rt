@@ -4,8 +4,9 @@
 ghost use Rattle.std.specs.Prelude.{◌≡◌, length};
 ghost use Rattle.words.specs.Zeros.{Filled};
 
-use files::Got;
-use program::Checked;
+use program::Counts;
+use refusals::Refusal;
+use std::io;
 use std::io::Print;
 
 // More bytes than any file of the cases has.
@@ -14,63 +15,31 @@ const ROOM: usize = 33000;
 // More bytes than all the cases have.
 const ALL: usize = 4194304;
 
-// Zeros, made apart so that no goal carries them; of the many, none counts them.
-fn empty_file() -> [u8; ROOM]
-    ensures { 33000 ≡ length result }
-{
-    [0; ROOM]
-}
-
-fn empty_input() -> [u8; ALL]
-    ensures { Filled 0 4194304 result }
-{
-    [0; ALL]
-}
-
-fn say(rt: &impl Print, word: &[u8]) {
-    // Nobody is left to tell where standard output is closed.
-    let _ = rt.write_all(word);
-}
-
-fn number(rt: &impl Print, n: usize) {
-    let _ = rt.print(n);
-}
-
-fn tell(rt: &impl Print, answer: Checked) {
+fn tell(rt: &impl Print, answer: Result<Counts, Refusal>) -> io::Result<()> {
     match answer {
-        Checked::Accepted(records, procedures, cells) => {
-            say(rt, b"accepted ");
-            number(rt, records);
-            say(rt, b" ");
-            number(rt, procedures);
-            say(rt, b" ");
-            number(rt, cells);
-        }
-        Checked::Refused(why, record) => {
-            say(rt, b"refused ");
-            number(rt, why as usize);
-            say(rt, b" ");
-            number(rt, record);
-        }
+        Ok(c) => println!(rt; "accepted {} {} {}", c.records, c.procedures, c.cells),
+        Err(r) => println!(rt; "refused {} {}", r.reason.number(), r.label),
     }
-    say(rt, b"\n");
 }
 
 fn answers(rt: &impl Print, s: &[u8]) {
-    let mut file = empty_file();
-    let mut at: usize = 0;
-    while at < s.len() {
-        let n = words::hex_bytes(s, at, &mut file);
-        tell(rt, program::check(&file[..n]));
-        at = words::next_line(s, at);
+    if s.is_empty() {
+        return;
+    }
+    let mut file: [u8; ROOM] = words::full(0);
+    // The newline that ends the last line begins none.
+    for line in s.strip_suffix(b"\n").unwrap_or(s).split(|b| *b == b'\n') {
+        let n = words::hex_bytes(line, 0, &mut file);
+        // Nobody is left to tell where standard output is closed.
+        let _ = tell(rt, program::check(&file[..n]));
     }
 }
 
 fn main(rt: HostRuntime) {
-    let mut input = empty_input();
+    let mut input: [u8; ALL] = words::full(0);
     match files::read_open(&mut rt.stdin(), &mut input) {
-        Got::All(n) => answers(&rt, &input[..n]),
-        Got::Failed(error) => {
+        Ok(n) => answers(&rt, &input[..n]),
+        Err(error) => {
             files::complain(&rt, b"check_lines", b"standard input", error);
         }
     }

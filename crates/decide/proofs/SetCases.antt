@@ -1,44 +1,31 @@
 -- The answers of the functions of src/set.rt, case by case, over plain numbers and lists. Assumes nothing.
 use mathlib.Core.Path.{◌≡◌, refl, sym, ap, ◌∙◌}
 use mathlib.Core.List.{List}
-use mathlib.Core.Bool.{true, false, false≢true, true≢false}
 use Prim.Native.Nat.{ℕ, zero, suc, ◌≤◌}
 use native.Mathlib.Omega.{arith}
-use borrow.Author.Tests.{eq-eqb, ne_eqb, ltb-true}
-use lib.IntN.{ℤ, pos, negsuc, ◌+ℤ◌, ◌-ℤ◌}
+use lib.IntN.{ℤ, pos, ◌+ℤ◌, ◌-ℤ◌}
 use lib.ListN.{length, get_or, set as put}
 use lib.Seq.{set_out}
-use lib.Signed.{lt_z}
-use mir.Syntax.{w32, w64}
+use mir.Syntax.{w32}
 use mir.Val.{SFits, of_z, to_z}
 use mir.Facts.{to_z-of_z}
 use Rattle.values.specs.Values.{wrap, xor_z}
-use Rattle.expr.specs.Tree.{Fault, div_by_zero, bad_index as outside, Worth, value, stop}
+use Rattle.expr.specs.Tree.{div_by_zero, bad_index as outside, Worth, value, stop}
 use Rattle.expr.specs.Bytes.{Got, up_to}
 use Rattle.expr.specs.Answers.{InCell}
-use Rattle.evaluate.specs.Answers.{packed_worth, arrays_of, worth_at, entry_of, WorthSays, moved_to}
-use Rattle.evaluate.specs.declared.Entry.{Entry}
-use Rattle.evaluate.specs.declared.Entry.TheVariants.{At, Outside}
-use Rattle.moves.specs.Stores.{ok, no, Reason, number, bind, Store, answered, reason_of, applied}
-use Rattle.decide.specs.Sets.{worked, fault_of, Leaves, set_entry}
+use Rattle.refusals.specs.declared.Reason.{Reason as Told}
+use Rattle.refusals.specs.declared.Reason.TheVariants.{ZeroDivisor, BadIndex}
+use Rattle.evaluate.specs.Answers.{told_of, arrays_of, worth_at, entry_of, WorthSays, moved_to}
+use Rattle.std.specs.Prelude.{Option, None, Some, Result, Ok, Err}
+use Rattle.moves.specs.Stores.{ok, no, Reason, zero_divisor, bad_index, number, bind, Store, answered, applied}
+use Rattle.decide.specs.Sets.{reason_by, worked, Left, set_entry}
 use Rattle.decide.specs.Ways.{set_cell}
 
 -- a signed number that was put in a variable, a field or an argument is read back from its bits
 abbrev again : ℤ → ℤ
 again z = to_z w32 (of_z w32 z)
 
-abbrev again64 : ℤ → ℤ
-again64 z = to_z w64 (of_z w64 z)
-
--- ---- `fault`, `apply`
-pub fault_yes : (n : ℕ) → n ≡ 4294967328 → 32 ≡ fault_of n
-fault_yes n e = rw (eq-eqb n 4294967328 e)
-
-pub fault_no : (n : ℕ) → (n ≡ 4294967328 → ⊥) → 33 ≡ fault_of n
-fault_no n e = rw (ne_eqb n 4294967328 e)
-
-pub ruleset faults = (fault_yes, fault_no)
-
+-- ---- `apply`
 module _ (o : ℕ) (x v r : ℤ) (fx : SFits w32 x) (fv : SFits w32 v) (fr : SFits w32 r) where
   pub apply_sum : o ≡ 0 → r ≡ wrap (again x +ℤ again v) → again r ≡ applied o x v
   apply_sum e p = rw e (to_z-of_z fr ∙ p ∙ rw (to_z-of_z fx, to_z-of_z fv))
@@ -57,25 +44,6 @@ apply_exclusive o x v r fx fv fr h k p = to_z-of_z fr ∙ p ∙ rw (to_z-of_z fx
 
 pub ruleset applies = (apply_sum, apply_difference, apply_exclusive)
 
--- ---- what `worth` answers, by the test that tells
-module _ (r : ℤ) (f : SFits w64 r) where
-  pub is_stop : (w : Worth) → r ≡ packed_worth w → InCell w → lt_z (pos 2147483647) (again64 r) ≡ true → (g : Fault) × (w ≡ stop g) × (fault_of (of_z w64 r) ≡ number (reason_of g))
-  is_stop (stop div_by_zero) e k t = (div_by_zero, refl, rw e)
-  is_stop (stop outside) e k t = (outside, refl, rw e)
-  is_stop (value (pos n)) e k t = absurd (omega (arith, ltb-true 2147483647 n (rw (to_z-of_z f, e) at t)))
-  is_stop (value (negsuc n)) e k t = absurd (false≢true (rw (to_z-of_z f, e) at t))
-
-  pub is_value : (w : Worth) → r ≡ packed_worth w → InCell w → lt_z (pos 2147483647) (again64 r) ≡ false → (w ≡ value r) × SFits w32 r
-  is_value (value v) e k t = (ap value (sym e), rw e k)
-  is_value (stop div_by_zero) e k t = absurd (true≢false (rw (to_z-of_z f, e) at t))
-  is_value (stop outside) e k t = absurd (true≢false (rw (to_z-of_z f, e) at t))
-
-  -- so it can be cast
-  pub narrow : (arr : List ℕ) (cs : List ℤ) (at : ℕ) (g : Got) (after : ℕ) → WorthSays arr cs at g r after → lt_z (pos 2147483647) (again64 r) ≡ false → SFits w32 (again64 r)
-  narrow arr cs at g after o t = rw (to_z-of_z f) (is_value (worth_at arr cs g) o.answer o.range t).1
-
-pub ruleset casts = (narrow)
-
 -- ---- `put`
 pub put_in : (σ : Store) (cell o : ℕ) (v r : ℤ) → SFits w32 (get_or σ cell (pos 0)) → SFits w32 v → SFits w32 r
     → r ≡ applied o (again (get_or σ cell (pos 0))) (again v) → put σ cell (again r) ≡ worked σ cell o v
@@ -87,42 +55,49 @@ put_out σ cell o v h = sym (set_out σ cell _ h)
 pub ruleset puts = (put_in, put_out)
 
 -- ---- `set_cell`, `set_entry`
-module _ (r : ℤ) (f : SFits w64 r) (arr : List ℕ) (cs : List ℤ) (at : ℕ) (g : Got) (after : ℕ) (says : WorthSays arr cs at g r after) where
-  told_stop : lt_z (pos 2147483647) (again64 r) ≡ true → (n : ℕ) → n ≡ fault_of (of_z w64 (again64 r)) → (q : Reason) × (answered (worth_at arr cs g) ≡ no q) × (n ≡ number q)
-  told_stop t n e =
-      let s = is_stop r f (worth_at arr cs g) says.answer says.range t in
-      (reason_of s.0, ap answered s.1, e ∙ ap (λ z. fault_of (of_z w64 z)) (to_z-of_z f) ∙ s.2)
+both : {A : Type 0} {B : Type 0} {X : Type 0} {r : Result A B} {u : A} {e : B} → r ≡ Ok u → r ≡ Err e → X
+both p q = let z : ◌≡◌ {A = ℕ} 0 1 = cc in absurd (omega arith)
 
-  told_value : lt_z (pos 2147483647) (again64 r) ≡ false → (answered (worth_at arr cs g) ≡ ok (again (again64 r))) × (after ≡ g.next)
-  told_value t =
-      let s = is_value r f (worth_at arr cs g) says.answer says.range t in
-      let back : again (again64 r) ≡ r = ap again (to_z-of_z f) ∙ to_z-of_z s.1 in
-      (ap answered s.0 ∙ ap ok (sym back), says.place ∙ ap (λ (w : Worth). moved_to w at g.next) s.0)
+module _ (r : Result ℤ Told) (arr : List ℕ) (cs : List ℤ) (at : ℕ) (g : Got) (after : ℕ) (says : WorthSays arr cs at g r after) where
+  told_stop : (e : Told) → r ≡ Err e → (q : Reason) × (answered (worth_at arr cs g) ≡ no q) × (e ≡ reason_by (number q))
+  told_stop e k = go (worth_at arr cs g) (sym k ∙ says.answer)
+    where
+      go : (w : Worth) → Err e ≡ told_of w → (q : Reason) × (answered w ≡ no q) × (e ≡ reason_by (number q))
+      go (value v) p = both refl (sym p)
+      go (stop div_by_zero) p = let t : e ≡ ZeroDivisor = cc in (zero_divisor, refl, t)
+      go (stop outside) p = let t : e ≡ BadIndex = cc in (bad_index, refl, t)
 
-module _ (f : List ℕ) (at c o : ℕ) (arr : List ℕ) (σ : Store) (v : ℤ) (fits : SFits w64 v) (after : ℕ) (says : WorthSays arr σ at (up_to 32768 16 f at) v after) where
-  pub cell_stop : (r : ℕ) → lt_z (pos 2147483647) (again64 v) ≡ true → r ≡ fault_of (of_z w64 (again64 v)) → Leaves (set_cell f at c o arr σ) σ r σ
+  told_value : (v : ℤ) → r ≡ Ok v → (answered (worth_at arr cs g) ≡ ok (again v)) × ((after ≡ g.next) × SFits w32 v)
+  told_value v k = go (worth_at arr cs g) (sym k ∙ says.answer) says.range says.place
+    where
+      go : (w : Worth) → Ok v ≡ told_of w → InCell w → after ≡ moved_to w at g.next → (answered w ≡ ok (again v)) × ((after ≡ g.next) × SFits w32 v)
+      go (value x) p f n = let t : v ≡ x = cc in let fv : SFits w32 v = rw t f in (ap ok (sym (to_z-of_z fv ∙ t)), (n, fv))
+      go (stop q) p f n = both refl p
+
+module _ (f : List ℕ) (at c o : ℕ) (arr : List ℕ) (σ : Store) (r : Result ℤ Told) (after : ℕ) (says : WorthSays arr σ at (up_to 32768 16 f at) r after) where
+  pub cell_stop : (e : Told) → r ≡ Err e → Left (set_cell f at c o arr σ) σ (Err e) σ
   unfolding set_cell bind
-  cell_stop r t e = let s = told_stop v fits _ _ _ _ after says t r e in rw s.1 (s.2, refl)
+  cell_stop e k = let s = told_stop _ _ _ _ _ after says e k in rw s.1 (ap Err s.2, refl)
 
-  pub cell_done : (σ' : Store) → lt_z (pos 2147483647) (again64 v) ≡ false → σ' ≡ worked σ c o (again (again64 v)) → Leaves (set_cell f at c o arr σ) σ 0 σ'
+  pub cell_done : (v : ℤ) (σ' : Store) → r ≡ Ok v → σ' ≡ worked σ c o (again v) → Left (set_cell f at c o arr σ) σ (Ok tt) σ'
   unfolding set_cell bind
-  cell_done σ' t e = rw (told_value v fits _ _ _ _ after says t).0 (refl, e)
+  cell_done v σ' k e = rw (told_value _ _ _ _ _ after says v k).0 (refl, e)
 
 pub ruleset cells = (cell_stop, cell_done)
 
 -- the index first, then the cell that it names
-module _ (f : List ℕ) (at a o : ℕ) (arr : List ℕ) (σ : Store) (i : ℤ) (fits : SFits w64 i) (after : ℕ) (says : WorthSays arr σ at (up_to 32768 16 f at) i after) where
-  pub entry_stop : (r : ℕ) → lt_z (pos 2147483647) (again64 i) ≡ true → r ≡ fault_of (of_z w64 (again64 i)) → Leaves (set_entry f at a o arr σ) σ r σ
+module _ (f : List ℕ) (at a o : ℕ) (arr : List ℕ) (σ : Store) (i : Result ℤ Told) (after : ℕ) (says : WorthSays arr σ at (up_to 32768 16 f at) i after) where
+  pub entry_stop : (e : Told) → i ≡ Err e → Left (set_entry f at a o arr σ) σ (Err e) σ
   unfolding set_entry bind
-  entry_stop r t e = let s = told_stop i fits _ _ _ _ after says t r e in rw s.1 (s.2, refl)
+  entry_stop e k = let s = told_stop _ _ _ _ _ after says e k in rw s.1 (ap Err s.2, refl)
 
-  module _ (t : lt_z (pos 2147483647) (again64 i) ≡ false) (x : Entry) (e : x ≡ entry_of (arrays_of arr) a (again (again64 i))) where
-    pub entry_none : x ≡ Outside → Leaves (set_entry f at a o arr σ) σ 33 σ
+  module _ (v : ℤ) (k : i ≡ Ok v) (x : Option ℕ) (e : x ≡ entry_of (arrays_of arr) a (again v)) where
+    pub entry_none : x ≡ None → Left (set_entry f at a o arr σ) σ (Err BadIndex) σ
     unfolding set_entry bind
-    entry_none q = rw ((told_value i fits _ _ _ _ after says t).0, ← e, q) (refl, refl)
+    entry_none q = rw ((told_value _ _ _ _ _ after says v k).0, ← e, q) (refl, refl)
 
-    pub entry_done : (c r : ℕ) (σ' : Store) → x ≡ At c → Leaves (set_cell f after c o arr σ) σ r σ' → Leaves (set_entry f at a o arr σ) σ r σ'
+    pub entry_done : (c : ℕ) (r : Result (Unit {0}) Told) (σ' : Store) → x ≡ Some c → Left (set_cell f after c o arr σ) σ r σ' → Left (set_entry f at a o arr σ) σ r σ'
     unfolding set_entry set_cell bind
-    entry_done c r σ' q l = let v = told_value i fits _ _ _ _ after says t in rw (v.0, ← e, q, ← v.1) l
+    entry_done c r σ' q l = let w = told_value _ _ _ _ _ after says v k in rw (w.0, ← e, q, ← w.1.0) l
 
 pub ruleset entered = (entry_stop, entry_none, entry_done)

@@ -1,9 +1,9 @@
 -- A SET read from the bytes, for any bytes and any arrays. Nothing here has to be believed: machine/proofs/Sets joins it to `assigned`.
-use Rattle.std.specs.Prelude.{ℕ, ◌+◌, ◌^◌, List, cond, ◌≡◌, get_or, set as put, eqb, ℤ, pos}
-use Rattle.expr.specs.Tree.{Arrays, div_by_zero, bad_index as beyond, fault_number, Worth}
+use Rattle.std.specs.Prelude.{ℕ, ◌+◌, List, Option, None, Some, Result, Ok, Err, cond, ◌≡◌, get_or, set as put, eqb, ℤ, pos}
+use Rattle.refusals.specs.declared.Reason.{Reason}
+use Rattle.refusals.specs.declared.Reason.TheVariants.{Unfit, AtEnd, WrongValue, ZeroDivisor, BadIndex, TooDeep}
+use Rattle.expr.specs.Tree.{Arrays, Worth}
 use Rattle.evaluate.specs.Answers.{arrays_of, worth_at, entry_of}
-use Rattle.evaluate.specs.declared.Entry.{Entry}
-use Rattle.evaluate.specs.declared.Entry.TheVariants.{At, Outside}
 use Rattle.expr.specs.Bytes.{up_to}
 use Rattle.records.specs.Faults.{word}
 use Rattle.moves.specs.Stores.{Answer, ok, no, number, bad_index, bind, Store, answered, applied}
@@ -12,14 +12,14 @@ use Rattle.ways.specs.Looks.{operator_at}
 abbrev pub worked : Store → ℕ → ℕ → ℤ → Store
 worked σ c o v = put σ c (applied o (get_or σ c (pos 0)) v)
 
--- the document's number of a refusal that is told in one number with the values
-abbrev pub fault_of : ℕ → ℕ
-fault_of n = cond (eqb n (2 ^ 32 + fault_number div_by_zero)) (fault_number div_by_zero) (fault_number beyond)
+-- the reason of a number that a step gives; of any other, the last
+abbrev pub reason_by : ℕ → Reason
+reason_by n = cond (eqb n 21) Unfit (cond (eqb n 30) AtEnd (cond (eqb n 31) WrongValue (cond (eqb n 32) ZeroDivisor (cond (eqb n 33) BadIndex TooDeep))))
 
 -- the cell of an entry, or that its index is refused
-abbrev pub as_answer : Entry → Answer ℕ
-as_answer (At c) = ok c
-as_answer Outside = no bad_index
+abbrev pub as_answer : Option ℕ → Answer ℕ
+as_answer (Some c) = ok c
+as_answer None = no bad_index
 
 abbrev pub entry_by : Arrays → ℕ → ℤ → Answer ℕ
 entry_by A a v = as_answer (entry_of A a v)
@@ -28,6 +28,11 @@ entry_by A a v = as_answer (entry_of A a v)
 abbrev pub Leaves : Answer Store → Store → ℕ → Store → Type 0
 Leaves (ok τ) σ r σ' = (r ≡ 0) × (σ' ≡ τ)
 Leaves (no q) σ r σ' = (r ≡ number q) × (σ' ≡ σ)
+
+-- what is answered, and the store left
+abbrev pub Left : Answer Store → Store → Result (Unit {0}) Reason → Store → Type 0
+Left (ok τ) σ r σ' = (r ≡ Ok tt) × (σ' ≡ τ)
+Left (no q) σ r σ' = (r ≡ Err (reason_by (number q))) × (σ' ≡ σ)
 
 abbrev pub set_to : ℕ → ℕ → Store → Worth → Answer Store
 set_to c o σ w = bind (answered w) (λ v. ok (worked σ c o v))

@@ -1,13 +1,14 @@
 -- What a step decides by the map of a run, for any map, as the code does. Nothing here has to be believed: proofs/Mapped joins
 -- it to the decision by the table. A way is a label and a direction in one number: the label, and 1,024 more upwards.
-use Rattle.std.specs.Prelude.{ℕ, ◌+◌, ◌-◌, ◌*◌, ◌/◌, ◌%◌, ◌<◌, List, ◌≡◌, Bool, false, cond, get_or, ltb, leb, eqb}
+use Rattle.std.specs.Prelude.{ℕ, ◌+◌, ◌-◌, ◌*◌, ◌/◌, ◌%◌, ◌<◌, List, ◌≡◌, Result, Ok, Err, Bool, false, cond, get_or, ltb, leb, eqb}
 use Rattle.std.specs.Bool.{beq as same}
 use Rattle.evaluate.specs.Answers.{worth_at, truth_of}
 use Rattle.expr.specs.Bytes.{up_to}
 use Rattle.place.specs.Methods.{top_at}
-use Rattle.moves.specs.Stores.{Answer, ok, no, number, Store}
+use Rattle.moves.specs.Stores.{Answer, ok, no, number as number_in, Store}
 use Rattle.ways.specs.Looks.{label_in, way_to}
-use Rattle.decide.specs.Sets.{set_to, set_entry}
+use Rattle.refusals.specs.declared.Reason.{Reason}
+use Rattle.decide.specs.Sets.{reason_by, set_to, set_entry}
 use Rattle.decide.specs.Decide.{Seen, Moved, Ruled as Tabled, more_of, fewer_of, slot_of, put_in}
 use Rattle.decide.specs.declared.Spot.{Spot}
 use Rattle.decide.specs.declared.Move.{Move}
@@ -82,15 +83,15 @@ pub record Doing : Type 0 where
   pub label : ℕ
 
 -- what of it is answered; the slot is written
-abbrev pub told : Doing → Move
-told d = record { reason = d.reason; way = d.way; a = d.a; depth = depth_of d.calls d.count }
+abbrev pub told : Doing → Result Move Reason
+told d = cond (eqb d.reason 0) (Ok (record { way = d.way; a = d.a; depth = depth_of d.calls d.count })) (Err (reason_by d.reason))
 
 -- the slots afterwards; a refused step writes none
 abbrev pub written : Doing → List ℕ → ℕ → List ℕ
 written d s v = cond (eqb d.reason 0) (put_in s d.slot v) s
 
 -- the move answered and the slots left are these
-pub record Does (d : Doing) (ks ls : List ℕ) (m : Move) (ks' ls' : List ℕ) : Type 0 where
+pub record Does (d : Doing) (ks ls : List ℕ) (m : Result Move Reason) (ks' ls' : List ℕ) : Type 0 where
   pub made : m ≡ told d
   pub small : d.count < 4096
   pub kinds : ks' ≡ written d ks d.kind
@@ -118,9 +119,13 @@ changed_in s y k = moving 0 y (label_in s.way) s.calls s.count (slot_of s.count)
 
 -- what is answered where no reason stops it and the frames are so many
 abbrev pub on_to : Sight → ℕ → ℕ → Move
-on_to s y n = record { reason = 0; way = y; a = label_in s.way; depth = n }
+on_to s y n = record { way = y; a = label_in s.way; depth = n }
 
 -- ---- the acts
+-- what a condition says, as a number
+abbrev pub number : Bool → ℕ
+number v = cond v 1 0
+
 unfoldable pub chosen_in : Sight → ℕ → List ℕ → Doing
 chosen_in s v m = cond (eqb v 0) (pushed_in s (no_in m s.way) 1 (head_in m s.way)) (pushed_in s (yes_in m s.way) 0 (head_in m s.way))
 
@@ -175,12 +180,12 @@ pub record Ruled : Type 0 where
   pub store : Store
 
 -- and so is the store
-pub record Rules (x : Ruled) (ks ls : List ℕ) (m : Move) (ks' ls' : List ℕ) (σ : Store) : Type 0 where
+pub record Rules (x : Ruled) (ks ls : List ℕ) (m : Result Move Reason) (ks' ls' : List ℕ) (σ : Store) : Type 0 where
   pub does : Does x.move ks ls m ks' ls'
   pub left : σ ≡ x.store
 
 -- a SET writes no slot
-pub record Sets (x : Ruled) (m : Move) (σ : Store) : Type 0 where
+pub record Sets (x : Ruled) (m : Result Move Reason) (σ : Store) : Type 0 where
   pub made : m ≡ told x.move
   pub left : σ ≡ x.store
 
@@ -189,7 +194,7 @@ ruled m σ = record { move = m; store = σ }
 
 abbrev pub after_set : Sight → List ℕ → Store → Answer Store → Ruled
 after_set s m σ (ok σ') = ruled (assigned_in s 0 m) σ'
-after_set s m σ (no q) = ruled (assigned_in s (number q) m) σ
+after_set s m σ (no q) = ruled (assigned_in s (number_in q) m) σ
 
 -- a SET of a cell
 unfoldable pub set_cell : List ℕ → ℕ → ℕ → ℕ → List ℕ → Store → Answer Store

@@ -3,21 +3,83 @@
 // A way is a label and a direction in one number (the crate `ways`). By it a run looks up all that it needs.
 #![tactic(auto)]
 
-ghost use Rattle.std.specs.Prelude.{◌≡◌, ◌+◌, ◌<◌, ◌≤◌, get_or};
+ghost use Rattle.std.specs.Prelude.{◌≡◌, ◌+◌, ◌<◌, ◌≤◌, get_or, Ok};
 ghost use Rattle.evaluate.specs.Answers.{worth_at, truth_of};
 ghost use Rattle.expr.specs.Bytes.{up_to};
 ghost use Rattle.decide.specs.Decide.{more_of, fewer_of, slot_of, put_in};
-ghost use Rattle.decide.specs.Ways.{depth_of, calls_in, count_in, bare, by_kind, by_label, sight, yes_in, no_in, second_in, expr_in, told, Does, on_to, refused_in, chosen_in, closed_in, again_in, opened_in, repeated_in, entered_in, back_in, returned_in, looped_in, tested_in, assigned_in, Sets, cell_in, entry_in, Rules, rule_in};
+ghost use Rattle.decide.specs.Ways.{depth_of, calls_in, count_in, bare, by_kind, by_label, sight, yes_in, no_in, second_in, expr_in, number, Does, on_to, chosen_in, closed_in, again_in, opened_in, repeated_in, entered_in, back_in, returned_in, looped_in, tested_in, Sets, cell_in, entry_in, Rules, rule_in};
 
 use crate::set::{set_cell, set_entry};
 use evaluate::truth;
 use place::top_of;
+use refusals::Reason;
 use ways::label_of;
 
 mod set;
 
-// The kind of a loop's frame while its second part runs.
+// The sections of the map, an entry of each for every way: what its record does; where one comes to where its test holds or there is
+// none, and where it does not hold; a call's edge and the way from there, or a SET's operator and cell or array; where its expression
+// stands; and the record that its frame names.
+const ACTS: usize = 0;
+
+const ONWARD: usize = 2048;
+
+const ELSEWHERE: usize = 4096;
+
+const FIRST: usize = 6144;
+
+const SECOND: usize = 8192;
+
+const EXPRESSIONS: usize = 10240;
+
+const HEADS: usize = 12288;
+
+// What a record does; any other number skips it.
+const RETURN_DOWN: u16 = 3;
+
+const ADD: u16 = 4;
+
+const CHOOSE: u16 = 5;
+
+const ENTRY: u16 = 6;
+
+const CLOSE: u16 = 7;
+
+const OPEN: u16 = 8;
+
+const RETURN_UP: u16 = 9;
+
+const REPEAT: u16 = 10;
+
+const ENTER: u16 = 11;
+
+const SUBTRACT: u16 = 12;
+
+const EXCLUDE: u16 = 14;
+
+// The kinds of frames: of an IF whose test held, and did not; of a loop in its first part, and in its second; of a call.
+const HELD: u16 = 0;
+
+const FAILED: u16 = 1;
+
+const IN_FIRST: u16 = 2;
+
 const IN_SECOND: u16 = 3;
+
+const CALLED: u16 = 4;
+// No kind: there is no frame.
+const NONE: u16 = 9;
+
+// A place has so many slots, and 64 calls at most.
+const SLOTS: usize = 1104;
+
+const FULL: usize = 64 * CALL;
+
+// Calls count so much in `depth`.
+const CALL: usize = 4096;
+
+// The half of a section for the way up.
+const UP: usize = 1024;
 
 // Where a step stands: the way of the record met; and in one number, which stays in a register, how many frames are calls (4,096
 // for each) and how many there are.
@@ -27,21 +89,13 @@ pub struct Spot {
     pub depth: usize,
 }
 
-// What it does: reason 0, the next way and the label before it, or the reason; and how many frames are left. It writes the one
-// slot that changes.
+// What it does where nothing refuses it: the next way and the label before it, and how many frames are left. It writes the one slot
+// that changes.
 #[derive(Drop)]
 pub struct Move {
-    pub reason: u8,
     pub way: usize,
     pub a: u16,
     pub depth: usize,
-}
-
-// A u16 as a number, with the bound that sums of it need.
-fn wide(x: u16) -> usize
-    ensures { (result ≡ x) × (result < 65536) }
-{
-    x as usize
 }
 
 // One frame more; a full place stays as it is.
@@ -54,8 +108,8 @@ fn push(
 ) -> usize
     ensures { (result ≡ depth_of (calls_in depth) (more_of (count_in depth))) × ((kinds.new ≡ put_in kinds.old (count_in depth) kind) × (labels.new ≡ put_in labels.old (count_in depth) label)) }
 {
-    let n = depth % 4096;
-    if n < 1104 {
+    let n = depth % CALL;
+    if n < SLOTS {
         kinds[n] = kind;
         labels[n] = label;
         return depth + 1;
@@ -67,11 +121,11 @@ fn push(
 fn pop(kinds: &mut [u16; 1104], labels: &mut [u16; 1104], depth: usize) -> usize
     ensures { (result ≡ depth_of (calls_in depth) (fewer_of (count_in depth))) × ((kinds.new ≡ put_in kinds.old (slot_of (count_in depth)) 0) × (labels.new ≡ put_in labels.old (slot_of (count_in depth)) 0)) }
 {
-    let n = depth % 4096;
+    let n = depth % CALL;
     if n == 0 {
         return depth;
     }
-    if n <= 1104 {
+    if n <= SLOTS {
         kinds[n - 1] = 0;
         labels[n - 1] = 0;
     }
@@ -85,7 +139,7 @@ fn change(kinds: &mut [u16; 1104], n: usize, kind: u16)
     if n == 0 {
         return;
     }
-    if n <= 1104 {
+    if n <= SLOTS {
         kinds[n - 1] = kind;
     }
 }
@@ -103,14 +157,14 @@ fn onward(map: &[u16; 14336], way: usize) -> usize
     requires { way < 2048 }
     ensures { result ≡ yes_in map.now way }
 {
-    wide(entry(map, 2048, way))
+    entry(map, ONWARD, way) as usize
 }
 
 fn elsewhere(map: &[u16; 14336], way: usize) -> usize
     requires { way < 2048 }
     ensures { result ≡ no_in map.now way }
 {
-    wide(entry(map, 4096, way))
+    entry(map, ELSEWHERE, way) as usize
 }
 
 // Where its expression stands; and where a call leads, or what a SET writes: a cell, or an array.
@@ -118,37 +172,24 @@ fn expression(map: &[u16; 14336], way: usize) -> usize
     requires { way < 2048 }
     ensures { result ≡ expr_in map.now way }
 {
-    wide(entry(map, 10240, way))
+    entry(map, EXPRESSIONS, way) as usize
 }
 
 fn target(map: &[u16; 14336], way: usize) -> usize
     requires { way < 2048 }
     ensures { result ≡ second_in map.now way }
 {
-    wide(entry(map, 8192, way))
+    entry(map, SECOND, way) as usize
 }
 
 impl Spot {
-    fn refused(self, reason: u8) -> Move
-        ensures { result ≡ told (refused_in (bare self) reason) }
-    {
-        Move {
-            reason,
-            way: self.way,
-            a: 0,
-            depth: self.depth,
-        }
-    }
-
     // On to another way, with so many frames.
     fn on(self, next: usize, depth: usize) -> Move
         ensures { result ≡ on_to (bare self) next depth }
     {
-        let a = label_of(self.way);
         Move {
-            reason: 0,
             way: next,
-            a,
+            a: label_of(self.way),
             depth,
         }
     }
@@ -156,94 +197,91 @@ impl Spot {
     // IF down and FI up choose: true takes s1, false s2.
     fn chosen(
         self,
-        v: u8,
+        v: bool,
         kinds: &mut [u16; 1104],
         labels: &mut [u16; 1104],
         map: &[u16; 14336],
     ) -> Move
         requires { self.way < 2048 }
-        ensures { Does (chosen_in (bare self) v map.now) kinds.old labels.old result kinds.new labels.new }
+        ensures { Does (chosen_in (bare self) (number v) map.now) kinds.old labels.old (Ok result) kinds.new labels.new }
     {
-        let head = entry(map, 12288, self.way);
-        if v == 0 {
+        let head = entry(map, HEADS, self.way);
+        if !v {
             let next = elsewhere(map, self.way);
-            return self.on(next, push(kinds, labels, self.depth, 1, head));
+            return self.on(next, push(kinds, labels, self.depth, FAILED, head));
         }
         let next = onward(map, self.way);
-        self.on(next, push(kinds, labels, self.depth, 0, head))
+        self.on(next, push(kinds, labels, self.depth, HELD, head))
     }
 
     // IF up and FI down close: value and frame must agree.
     fn closed(
         self,
-        v: u8,
+        v: bool,
         kinds: &mut [u16; 1104],
         labels: &mut [u16; 1104],
         map: &[u16; 14336],
-    ) -> Move
+    ) -> Result<Move, Reason>
         requires { self.way < 2048 }
-        ensures { Does (closed_in (by_kind self kinds.old) v map.now) kinds.old labels.old result kinds.new labels.new }
+        ensures { Does (closed_in (by_kind self kinds.old) (number v) map.now) kinds.old labels.old result kinds.new labels.new }
     {
-        let kind = top_of(kinds, self.depth % 4096, 9);
+        let kind = top_of(kinds, self.depth % CALL, NONE);
         // one test that nearly always holds, and none of the value by itself
-        if (v == 0) == (kind == 0) {
-            return self.refused(31);
+        if !v == (kind == HELD) {
+            return Err(Reason::WrongValue);
         }
         let next = onward(map, self.way);
-        self.on(next, pop(kinds, labels, self.depth))
+        Ok(self.on(next, pop(kinds, labels, self.depth)))
     }
 
     // Whether one comes to the loop from its s2.
     fn again(self, head: u16, kinds: &[u16; 1104], labels: &[u16; 1104]) -> bool
         ensures { result ≡ again_in (sight self kinds.now labels.now) head }
     {
-        let kind = top_of(kinds, self.depth % 4096, 9);
-        if kind == IN_SECOND {
-            return top_of(labels, self.depth % 4096, 0) == head;
-        }
-        false
+        let kind = top_of(kinds, self.depth % CALL, NONE);
+        kind == IN_SECOND && top_of(labels, self.depth % CALL, 0) == head
     }
 
     // FROM down and UNTIL up open: true from outside, false from s2.
     fn opened(
         self,
-        v: u8,
+        v: bool,
         kinds: &mut [u16; 1104],
         labels: &mut [u16; 1104],
         map: &[u16; 14336],
-    ) -> Move
+    ) -> Result<Move, Reason>
         requires { self.way < 2048 }
-        ensures { Does (opened_in (sight self kinds.old labels.old) v map.now) kinds.old labels.old result kinds.new labels.new }
+        ensures { Does (opened_in (sight self kinds.old labels.old) (number v) map.now) kinds.old labels.old result kinds.new labels.new }
     {
-        let head = entry(map, 12288, self.way);
+        let head = entry(map, HEADS, self.way);
         let next = onward(map, self.way);
         if self.again(head, kinds, labels) {
-            if v != 0 {
-                return self.refused(31);
+            if v {
+                return Err(Reason::WrongValue);
             }
-            change(kinds, self.depth % 4096, 2);
-            return self.on(next, self.depth);
+            change(kinds, self.depth % CALL, IN_FIRST);
+            return Ok(self.on(next, self.depth));
         }
-        if v == 0 {
-            return self.refused(31);
+        if !v {
+            return Err(Reason::WrongValue);
         }
-        self.on(next, push(kinds, labels, self.depth, 2, head))
+        Ok(self.on(next, push(kinds, labels, self.depth, IN_FIRST, head)))
     }
 
     // UNTIL down and FROM up test: true leaves the loop, false enters s2.
     fn repeated(
         self,
-        v: u8,
+        v: bool,
         kinds: &mut [u16; 1104],
         labels: &mut [u16; 1104],
         map: &[u16; 14336],
     ) -> Move
         requires { self.way < 2048 }
-        ensures { Does (repeated_in (by_label self labels.old) v map.now) kinds.old labels.old result kinds.new labels.new }
+        ensures { Does (repeated_in (by_label self labels.old) (number v) map.now) kinds.old labels.old (Ok result) kinds.new labels.new }
     {
-        if v == 0 {
+        if !v {
             let next = elsewhere(map, self.way);
-            change(kinds, self.depth % 4096, 3);
+            change(kinds, self.depth % CALL, IN_SECOND);
             return self.on(next, self.depth);
         }
         let next = onward(map, self.way);
@@ -251,23 +289,26 @@ impl Spot {
     }
 
     // A call enters a procedure at the edge that the map has; a 65th is refused.
-    fn entered(self, kinds: &mut [u16; 1104], labels: &mut [u16; 1104], map: &[u16; 14336]) -> Move
+    fn entered(
+        self,
+        kinds: &mut [u16; 1104],
+        labels: &mut [u16; 1104],
+        map: &[u16; 14336],
+    ) -> Result<Move, Reason>
         requires { self.way < 2048 }
         ensures { Does (entered_in (bare self) map.now) kinds.old labels.old result kinds.new labels.new }
     {
-        // 64 calls
-        if 262144 <= self.depth {
-            return self.refused(34);
+        if FULL <= self.depth {
+            return Err(Reason::TooDeep);
         }
-        let depth = push(kinds, labels, self.depth, 4, label_of(self.way));
-        let a = entry(map, 6144, self.way);
+        let depth = push(kinds, labels, self.depth, CALLED, label_of(self.way));
+        let a = entry(map, FIRST, self.way);
         let way = target(map, self.way);
-        Move {
-            reason: 0,
+        Ok(Move {
             way,
             a,
-            depth: depth + 4096,
-        }
+            depth: depth + CALL,
+        })
     }
 
     // Back at the calling record of a label, and on from there; `side` is the half of a section for the direction.
@@ -280,15 +321,14 @@ impl Spot {
         map: &[u16; 14336],
     ) -> Move
         requires { (4096 ≤ self.depth) × ((label < 1024) × (side ≤ 1024)) }
-        ensures { Does (back_in (bare self) label side map.now) kinds.old labels.old result kinds.new labels.new }
+        ensures { Does (back_in (bare self) label side map.now) kinds.old labels.old (Ok result) kinds.new labels.new }
     {
-        let way = onward(map, wide(label) + side);
+        let way = onward(map, label as usize + side);
         let depth = pop(kinds, labels, self.depth);
         Move {
-            reason: 0,
             way,
             a: label,
-            depth: depth - 4096,
+            depth: depth - CALL,
         }
     }
 
@@ -299,29 +339,18 @@ impl Spot {
         kinds: &mut [u16; 1104],
         labels: &mut [u16; 1104],
         map: &[u16; 14336],
-    ) -> Move
+    ) -> Result<Move, Reason>
         requires { side ≤ 1024 }
         ensures { Does (returned_in (by_label self labels.old) side map.now) kinds.old labels.old result kinds.new labels.new }
     {
-        if self.depth < 4096 {
-            return self.refused(30);
+        if self.depth < CALL {
+            return Err(Reason::AtEnd);
         }
-        let label = top_of(labels, self.depth % 4096, 0);
+        let label = top_of(labels, self.depth % CALL, 0);
         if 1024 <= label {
-            return self.refused(21);
+            return Err(Reason::Unfit);
         }
-        self.back_to(label, side, kinds, labels, map)
-    }
-
-    // A SET that answered a number.
-    fn assigned(self, reason: u8, map: &[u16; 14336]) -> Move
-        requires { self.way < 2048 }
-        ensures { result ≡ told (assigned_in (bare self) reason map.now) }
-    {
-        if reason == 0 {
-            return self.on(onward(map, self.way), self.depth);
-        }
-        self.refused(reason)
+        Ok(self.back_to(label, side, kinds, labels, map))
     }
 }
 
@@ -333,13 +362,13 @@ fn cell(
     map: &[u16; 14336],
     arrays: &[u16; 32],
     cells: &mut [i32; 2048],
-) -> Move
+) -> Result<Move, Reason>
     requires { s.way < 2048 }
     ensures { Sets (cell_in bytes.now map.now arrays.now (bare s) cells.old o) result cells.new }
 {
     let at = expression(map, s.way);
-    let reason = set_cell(bytes, at, o, target(map, s.way), arrays, cells);
-    s.assigned(reason, map)
+    set_cell(bytes, at, o, target(map, s.way), arrays, cells)?;
+    Ok(s.on(onward(map, s.way), s.depth))
 }
 
 // A SET of an entry.
@@ -349,14 +378,14 @@ fn cell_of_array(
     map: &[u16; 14336],
     arrays: &[u16; 32],
     cells: &mut [i32; 2048],
-) -> Move
+) -> Result<Move, Reason>
     requires { s.way < 2048 }
     ensures { Sets (entry_in bytes.now map.now arrays.now (bare s) cells.old) result cells.new }
 {
     let at = expression(map, s.way);
-    let o = wide(entry(map, 6144, s.way));
-    let reason = set_entry(bytes, at, o, target(map, s.way), arrays, cells);
-    s.assigned(reason, map)
+    let o = entry(map, FIRST, s.way) as usize;
+    set_entry(bytes, at, o, target(map, s.way), arrays, cells)?;
+    Ok(s.on(onward(map, s.way), s.depth))
 }
 
 // A loop's record, or one that is skipped. Here and in `tested` each act evaluates its expression by itself, so that the processor
@@ -370,25 +399,19 @@ fn looped(
     map: &[u16; 14336],
     arrays: &[u16; 32],
     cells: &[i32; 2048],
-) -> Move
+) -> Result<Move, Reason>
     requires { s.way < 2048 }
     ensures { Does (looped_in (sight s kinds.old labels.old) act (truth_of (worth_at arrays.now cells.now (up_to 32768 16 bytes.now (expr_in map.now s.way)))) map.now) kinds.old labels.old result kinds.new labels.new }
 {
-    if act == 8 {
-        let v = truth(bytes, expression(map, s.way), cells, arrays);
-        if 2 <= v {
-            return s.refused(v);
-        }
+    if act == OPEN {
+        let v = truth(bytes, expression(map, s.way), cells, arrays)?;
         return s.opened(v, kinds, labels, map);
     }
-    if act == 10 {
-        let v = truth(bytes, expression(map, s.way), cells, arrays);
-        if 2 <= v {
-            return s.refused(v);
-        }
-        return s.repeated(v, kinds, labels, map);
+    if act == REPEAT {
+        let v = truth(bytes, expression(map, s.way), cells, arrays)?;
+        return Ok(s.repeated(v, kinds, labels, map));
     }
-    s.on(onward(map, s.way), s.depth)
+    Ok(s.on(onward(map, s.way), s.depth))
 }
 
 // A record that tests, or is skipped.
@@ -401,22 +424,16 @@ fn tested(
     map: &[u16; 14336],
     arrays: &[u16; 32],
     cells: &[i32; 2048],
-) -> Move
+) -> Result<Move, Reason>
     requires { s.way < 2048 }
     ensures { Does (tested_in (sight s kinds.old labels.old) act (truth_of (worth_at arrays.now cells.now (up_to 32768 16 bytes.now (expr_in map.now s.way)))) map.now) kinds.old labels.old result kinds.new labels.new }
 {
-    if act == 5 {
-        let v = truth(bytes, expression(map, s.way), cells, arrays);
-        if 2 <= v {
-            return s.refused(v);
-        }
-        return s.chosen(v, kinds, labels, map);
+    if act == CHOOSE {
+        let v = truth(bytes, expression(map, s.way), cells, arrays)?;
+        return Ok(s.chosen(v, kinds, labels, map));
     }
-    if act == 7 {
-        let v = truth(bytes, expression(map, s.way), cells, arrays);
-        if 2 <= v {
-            return s.refused(v);
-        }
+    if act == CLOSE {
+        let v = truth(bytes, expression(map, s.way), cells, arrays)?;
         return s.closed(v, kinds, labels, map);
     }
     looped(s, act, kinds, labels, bytes, map, arrays, cells)
@@ -431,34 +448,34 @@ pub fn decide(
     map: &[u16; 14336],
     arrays: &[u16; 32],
     cells: &mut [i32; 2048],
-) -> Move
+) -> Result<Move, Reason>
     ensures { Rules (rule_in bytes.now map.now arrays.now (sight s kinds.old labels.old) cells.old) kinds.old labels.old result kinds.new labels.new cells.new }
 {
     // no way is above, so that what follows asks the map without a test
     if 2048 <= s.way {
-        return s.refused(21);
+        return Err(Reason::Unfit);
     }
-    let act = entry(map, 0, s.way);
-    if act == 4 {
+    let act = entry(map, ACTS, s.way);
+    if act == ADD {
         return cell(s, 0, bytes, map, arrays, cells);
     }
-    if act == 12 {
+    if act == SUBTRACT {
         return cell(s, 1, bytes, map, arrays, cells);
     }
-    if act == 14 {
+    if act == EXCLUDE {
         return cell(s, 2, bytes, map, arrays, cells);
     }
-    if act == 6 {
+    if act == ENTRY {
         return cell_of_array(s, bytes, map, arrays, cells);
     }
-    if act == 11 {
+    if act == ENTER {
         return s.entered(kinds, labels, map);
     }
-    if act == 3 {
+    if act == RETURN_DOWN {
         return s.returned(0, kinds, labels, map);
     }
-    if act == 9 {
-        return s.returned(1024, kinds, labels, map);
+    if act == RETURN_UP {
+        return s.returned(UP, kinds, labels, map);
     }
     tested(s, act, kinds, labels, bytes, map, arrays, cells)
 }

@@ -6,9 +6,10 @@ use mathlib.Core.Path.{◌≡◌, refl, sym, ap, ap₂, ◌∙◌, subst}
 use native.Mathlib.Omega.{arith}
 use lib.IntN.{pos}
 use lib.ListN.{length, replicate, length-replicate}
+use Rattle.std.specs.Prelude.{Result, Ok, Err}
 use Rattle.codes.specs.Codes.{AllBytes}
+use Rattle.refusals.specs.declared.Refusal.{Refusal}
 use Rattle.place.specs.declared.Place.{Place as Held}
-use Rattle.place.specs.Methods.{blank_of}
 use Rattle.place.specs.Slots.{held}
 use Rattle.order.specs.Trees.{Tree, cells}
 use Rattle.program.specs.Says.{Accepts}
@@ -18,23 +19,21 @@ use Rattle.moves.specs.Stores.{Answer as Arrival, Store}
 use Rattle.moves.specs.Step.{start}
 use Rattle.moves.specs.Runs as runs
 use Rattle.session.specs.Session.{Reads}
-use Rattle.machine.specs.Answers.{Gives, done, numbered, Ready, direction}
-use Rattle.machine.specs.declared.Told.{Told}
-use Rattle.machine.specs.declared.Told.TheVariants.{Done, Refused}
+use Rattle.machine.specs.Answers.{Gives, Ready, direction}
 use Rattle.machine.proofs.Giving.{numbers_one}
-use Rattle.machine.proofs.OneAnswer.{not_both, faults_one, run_one, step_one}
-use Rattle.saved.specs.Answers.{ReadBefore, ReadSays, found}
+use Rattle.machine.proofs.OneAnswer.{no_way, not_both, faults_one, run_one, step_one}
+use Rattle.saved.specs.Answers.{ReadBefore, ReadSays, Found}
 use Rattle.saved.specs.Answers as saved
-use Rattle.saved.proofs.Giving.{read_some}
-use Rattle.saved.proofs.OneAnswer.{read_one, save_one}
+use Rattle.saved.proofs.OneAnswer.{before_one, before_found, read_one, save_one}
 use Rattle.desk.specs.declared.Session.{Session}
 use Rattle.desk.specs.declared.Answer.{Answer}
 use Rattle.desk.specs.declared.Outcome.{Outcome}
 use Rattle.desk.specs.declared.Counts.{Counts}
-use Rattle.desk.specs.Desk.{numbers, made, laid, OverSays, program, size, MoveSays, over, within, steps_of, SteppedSays, RanSays, upward, BeginSays, refused, begun, OpenBefore, malformed, place, OpenSays, opened, SavingSays, counts, CheckSays, said}
+use Rattle.desk.specs.Desk.{numbers, made, store_of, laid, OverSays, program, size, MoveSays, over, within, steps_of, SteppedSays, RanSays, upward, BeginSays, refused, begun, OpenBefore, malformed, place, OpenSays, opened, SavingSays, written, counts, CheckSays, said}
 
-never : {X : Type 0} {n k : ℕ} → Refused n k ≡ Done → X
-never {n = n} {k = k} e = let z : ◌≡◌ {A = ℕ} 0 1 = cc in absurd (omega arith)
+-- what is told
+abbrev Told : Type 0
+Told = Result (Unit {0}) Refusal
 
 -- one answer gives one number and record
 same : {a a' : Told} {n k n' k' : ℕ} → a ≡ a' → Gives a n k → Gives a' n' k' → (n ≡ n') × (k ≡ k')
@@ -92,29 +91,30 @@ module _ {f : List ℕ} (B : AllBytes f) where
       before (size A R h) = saved.size A R (λ l. h l.0)
       before (place {t} A R l h) = saved.place A R l (w t A) h
 
-      no_place : {bytes : List ℕ} {n k : ℕ} → OpenBefore f bytes n k → ReadSays f bytes σ (Refused n k) blank_of σ
-      no_place b = let x = before b in saved.refused x (numbered (read_some x)) refl refl
-
       opens_one : {bytes : List ℕ} {n k n' k' : ℕ} → OpenBefore f bytes n k → OpenBefore f bytes n' k' → (n ≡ n') × (k ≡ k')
-      opens_one b b' = same (read_one B (no_place b) (no_place b')).0 (numbered (read_some (before b))) (numbered (read_some (before b')))
+      opens_one {bytes} b b' = before_one f B bytes σ (before b) (before b')
+
+    -- what is opened is read into a store of the program's size
+    found : {bytes : List ℕ} {t : Tree} {p : Place} {q : Held} {σ τ : Store} → Reads bytes p σ → Ready f q σ t p → length τ ≡ cells t → Found f bytes τ q σ
+    found {t = t} {p = p} R D l = record { tree = t; place = p; reads = R; ready = D; lent = l }
 
     open_never : {X : Type 0} {bytes : List ℕ} {n k : ℕ} {t : Tree} {p : Place} {q : Held} {σ : Store} → OpenBefore f bytes n k → Reads bytes p σ → Ready f q σ t p → X
-    open_never {σ = σ} b R D = never (read_one B (no_place σ (of_tree σ D.accepts D.sized) b) (found R D D.sized done)).0
+    open_never {bytes = bytes} {σ = σ} b R D = no_way (before_found f B bytes σ (before σ (of_tree σ D.accepts D.sized) b) (found R D D.sized))
 
     pub open_one : (bytes : List ℕ) {m m' : Outcome} → OpenSays f bytes s m → OpenSays f bytes s m' → m ≡ m'
     open_one bytes (refused b e) (refused b' e') = let x = sized b in refusals (opens_one x.0 x.1 b b') e e'
     open_one bytes (refused b e) (opened R D e') = open_never b R D
     open_one bytes (opened R D e) (refused b e') = open_never b R D
     open_one bytes (opened {t} {q = q} {σ = σ} R D e) (opened {t = t'} {q = q'} {σ = σ'} R' D' e') =
-        let u = accepts_unique f B t t' D.accepts D'.accepts in let z = read_one B {σ = σ} (found R D D.sized done) (found R' D' (D.sized ∙ ap cells u) done) in
-        e ∙ ((λ i. made (numbers 0 0 0) (laid s (z.1 i) (cells (u i)) (z.2 i))) ∙ sym e')
+        let u = accepts_unique f B t t' D.accepts D'.accepts in
+        let z = read_one f B bytes σ (Ok q) (Ok q') σ σ' (found R D D.sized) (found R' D' (D.sized ∙ ap cells u)) in let y : q ≡ q' = let x = z.0 in cc in
+        e ∙ ((λ i. made (numbers 0 0 0) (laid s (y i) (cells (u i)) (z.1 i))) ∙ sym e')
 
     pub saving_one : (buf : List ℕ) {a a' : Answer} {x x' : List ℕ} → SavingSays f s buf a x → SavingSays f s buf a' x' → (a ≡ a') × (x ≡ x')
     saving_one buf (over h o e ex) (over h' o' e' ex') = let z = over_one o o' in (e ∙ (ap₂ (λ (n k : ℕ). numbers n k 0) z.0 z.1 ∙ sym e'), ex ∙ sym ex')
-    saving_one buf (over h o e ex) (within h' w g e') = absurd (omega (arith, h, h'))
-    saving_one buf (within h w g e) (over h' o e' ex') = absurd (omega (arith, h, h'))
-    saving_one buf (within h w g e) (within h' w' g' e') =
-        let z = save_one B w w' in let y = same z.0 g g' in (e ∙ ((λ i. numbers (y.0 i) (y.1 i) (z.1 i)) ∙ sym e'), z.2)
+    saving_one buf (over h o e ex) (within r h' w e') = absurd (omega (arith, h, h'))
+    saving_one buf (within r h w e) (over h' o e' ex') = absurd (omega (arith, h, h'))
+    saving_one buf {x = x} {x'} (within r h w e) (within r' h' w' e') = let z = save_one f B s.place (store_of s) buf r r' x x' w w' in (e ∙ (ap written z.0 ∙ sym e'), z.1)
 
   pub check_one : {c c' : Counts} → CheckSays f c → CheckSays f c' → c ≡ c'
   check_one (said b e) (said b' e') = e ∙ (ap counts (determined f B _ _ b b') ∙ sym e')

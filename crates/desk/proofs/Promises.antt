@@ -14,7 +14,9 @@ use Rattle.program.specs.Says.{Accepts}
 use Rattle.moves.specs.Places.{Place}
 use Rattle.moves.specs.Stores.{Answer as Arrival, Store}
 use Rattle.moves.specs.Runs.{Ran}
-use Rattle.machine.specs.declared.Told.TheVariants.{Refused}
+use Rattle.std.specs.Prelude.{Result, Err}
+use Rattle.refusals.specs.declared.Reason.TheVariants.{WrongSize}
+use Rattle.refusals.specs.declared.Refusal.{Refusal}
 use Rattle.machine.specs.Answers.{Gives, numbered, Before, StepSays, refused, stopped, arrived}
 use Rattle.machine.specs.Answers as machine
 use Rattle.machine.proofs.Giving.{numbers_one}
@@ -37,8 +39,11 @@ module _ (move : Tree → Place → Store → Arrival (Place × Store)) (f : Lis
       kept (arrived R a g' eq es) = absurd (n (ap (λ (m : Outcome). m.answer.reason) e ∙ (numbers_one g g').0))
 
 module _ {f : List ℕ} (B : AllBytes f) (s : Session) (l : length s.cells ≡ 2048) (t : Tree) (A : Accepts f t) (ne : s.count ≡ cells t → ⊥) where
-  twenty : Gives (Refused 20 0) 20 0
-  twenty = numbered {n = 20} (omega arith)
+  abbrev wrong_size : Refusal
+  wrong_size = record { reason = WrongSize; label = 0 }
+
+  twenty : Gives (Err wrong_size) 20 0
+  twenty = numbered
 
   before : s.count ≤ 2048 → Before f s.place (store_of s) 20 0
   before h = machine.size A (λ z. ne (sym (length-take-le s.count s.cells (omega (arith, h, l))) ∙ z))
@@ -56,4 +61,4 @@ module _ {f : List ℕ} (B : AllBytes f) (s : Session) (l : length s.cells ≡ 2
 
   pub wrong_count_save : (buf : List ℕ) (a : Answer) (buf' : List ℕ) → SavingSays f s buf a buf' → (a ≡ numbers 20 0 0) × (buf' ≡ buf)
   wrong_count_save buf a buf' (over h o e x) = saving_one B s buf (over h o e x) (over h (size A) refl refl)
-  wrong_count_save buf a buf' (within h w g e) = saving_one B s buf (within h w g e) (within h (saved.refused (before h) twenty refl refl) twenty refl)
+  wrong_count_save buf a buf' (within r h w e) = saving_one B s buf (within r h w e) (within (Err wrong_size) h (saved.before (before h), refl) refl)

@@ -1,5 +1,7 @@
 -- What the desk's calls answer, in the document's numbers, and the session afterwards: for every file and every session.
-use Rattle.std.specs.Prelude.{ℕ, ◌<◌, ◌≤◌, Bool, not, List, ◌++◌, ◌≡◌, eqb, pos, length, take, drop, replicate}
+use Rattle.std.specs.Prelude.{ℕ, ◌<◌, ◌≤◌, Bool, not, List, ◌++◌, ◌≡◌, eqb, pos, length, take, drop, replicate, Result, Ok, Err}
+use Rattle.refusals.specs.declared.Refusal.{Refusal}
+use Rattle.refusals.specs.Numbers.{number_of}
 use Rattle.place.specs.declared.Place.{Place as Held}
 use Rattle.place.specs.Held.{held}
 use Rattle.order.specs.Trees.{Tree, cells}
@@ -10,8 +12,6 @@ use Rattle.moves.specs.Step.{start}
 use Rattle.moves.specs.Runs as runs
 use Rattle.session.specs.Session.{Reads}
 use Rattle.machine.specs.Answers.{Gives, Ready, StepSays, RunSays, direction}
-use Rattle.machine.specs.declared.Told.{Told}
-use Rattle.machine.specs.declared.Told.TheVariants.{Done, Refused}
 use Rattle.saved.specs.Answers.{SaveSays}
 use Rattle.desk.specs.declared.Session.{Session}
 use Rattle.desk.specs.declared.Answer.{Answer}
@@ -40,15 +40,15 @@ pub data OverSays (f : List ℕ) : ℕ → ℕ → Type 0 where
   size : {t : Tree} → Accepts f t → OverSays f 20 0
 
 -- A move of the session: what `says` says from its place over its store, in numbers; the session is then at the last place with the last store.
-pub data MoveSays (says : Told → ℕ → Held → Store → Type 0) (f : List ℕ) (s : Session) (m : Outcome) : Type 0 where
+pub data MoveSays (says : Result (Unit {0}) Refusal → ℕ → Held → Store → Type 0) (f : List ℕ) (s : Session) (m : Outcome) : Type 0 where
   over : {reason k : ℕ} → 2048 < s.count → OverSays f reason k → m ≡ made (numbers reason k 0) s → MoveSays says f s m
-  within : {told : Told} {reason k steps : ℕ} {q : Held} {σ : Store} → s.count ≤ 2048 → says told steps q σ → Gives told reason k
+  within : {told : Result (Unit {0}) Refusal} {reason k steps : ℕ} {q : Held} {σ : Store} → s.count ≤ 2048 → says told steps q σ → Gives told reason k
       → m ≡ made (numbers reason k steps) (laid s q s.count σ) → MoveSays says f s m
 
 -- The steps made by a step: one, or none where it is refused.
-abbrev pub steps_of : Told → ℕ
-steps_of Done = 1
-steps_of (Refused n k) = 0
+abbrev pub steps_of : Result (Unit {0}) Refusal → ℕ
+steps_of (Ok u) = 1
+steps_of (Err r) = 0
 
 -- "A refused step returns its number and the same place; the store is untouched": a step, forward or back.
 abbrev pub SteppedSays : (Tree → Place → Store → Arrival (Place × Store)) → List ℕ → Session → Outcome → Type 0
@@ -81,11 +81,15 @@ pub data OpenSays (f bytes : List ℕ) (s : Session) (m : Outcome) : Type 0 wher
   refused : {n k : ℕ} → OpenBefore f bytes n k → m ≡ made (numbers n k 0) s → OpenSays f bytes s m
   opened : {t : Tree} {p : Place} {q : Held} {σ : Store} → Reads bytes p σ → Ready f q σ t p → m ≡ made (numbers 0 0 0) (laid s q (cells t) σ) → OpenSays f bytes s m
 
--- A save of the session's place and store: the bytes written are the count.
+-- The bytes written by a save are the count; there are none where it is refused.
+abbrev pub written : Result ℕ Refusal → Answer
+written (Ok n) = numbers 0 0 n
+written (Err r) = numbers (number_of r.reason) r.label 0
+
+-- A save of the session's place and store.
 pub data SavingSays (f : List ℕ) (s : Session) (buf : List ℕ) (a : Answer) (buf' : List ℕ) : Type 0 where
   over : {reason k : ℕ} → 2048 < s.count → OverSays f reason k → a ≡ numbers reason k 0 → buf' ≡ buf → SavingSays f s buf a buf'
-  within : {told : Told} {reason k written : ℕ} → s.count ≤ 2048 → SaveSays f s.place (store_of s) buf told written buf' → Gives told reason k
-      → a ≡ numbers reason k written → SavingSays f s buf a buf'
+  within : (r : Result ℕ Refusal) → s.count ≤ 2048 → SaveSays f s.place (store_of s) buf r buf' → a ≡ written r → SavingSays f s buf a buf'
 
 -- "An accepted file answers its counts of records, procedures and cells"; else the number and the record.
 abbrev pub counts : Given → Counts

@@ -1,20 +1,22 @@
 // The desk: one current session, lent and moved. Every function is total. What C calls stands in `desk_c`.
 #![tactic(auto)]
 
-ghost use Rattle.std.specs.Prelude.{◌≡◌, ◌≤◌, pos, length, replicate};
+ghost use Rattle.std.specs.Prelude.{◌≡◌, ◌≤◌, pos, replicate};
+ghost use Rattle.refusals.specs.Numbers.{number_of};
 ghost use Rattle.moves.specs.Step.{step, step_back};
 ghost use Rattle.moves.specs.Runs.{run, run_back};
-ghost use Rattle.desk.specs.Desk.{numbers, made, laid, SteppedSays, RanSays, BeginSays, OpenSays, SavingSays, CheckSays};
-ghost use Rattle.desk.specs.Whole.{Numbered, Over, Leaves, Settles};
+ghost use Rattle.desk.specs.Desk.{numbers, made, laid, steps_of, OverSays, MoveSays, SteppedSays, RanSays, BeginSays, OpenSays, SavingSays, CheckSays};
+ghost use Rattle.desk.specs.Whole.{in_numbers, left, By, Steps, Runs};
 
-use machine::Told;
+use machine::{Ran, Stepped};
 use place::Place;
-use program::Checked;
+use refusals::{Reason, Refusal};
 
 // No program has more cells.
 const CELLS: usize = 2048;
 
 // A place, and the store in the first `count` cells.
+// Stays: (a) the C interface (include/ladrukhi.h): a count beside the cells here, and numbers for refusals in the two structs below.
 #[repr(C)]
 #[derive(Clone, Copy)]
 pub struct Session {
@@ -50,63 +52,84 @@ pub struct Outcome {
     pub answer: Answer,
 }
 
-// An answer in numbers.
-fn in_numbers(told: Told, count: usize) -> Answer
-    ensures { Numbered told count result }
-{
-    match told {
-        Told::Done => Answer {
-            reason: 0,
-            label: 0,
-            count,
-        },
-        Told::Refused(number, k) => Answer {
-            reason: number,
-            label: k,
-            count,
-        },
-    }
-}
-
-// Refused, the session as it was.
-fn refused(session: Session, number: u8, k: usize) -> Outcome
-    ensures { result ≡ made (numbers number k 0) session }
-{
-    let answer = Answer {
-        reason: number,
-        label: k,
-        count: 0,
-    };
-    Outcome { session, answer }
-}
-
-// A session whose count no program has.
-fn over(file: &[u8], session: Session) -> Outcome
-    ensures { Over file.now session result }
-{
-    match program::check(file) {
-        Checked::Refused(number, k) => refused(session, number, k),
-        Checked::Accepted(_, _, _) => refused(session, 20, 0),
-    }
-}
-
-// What is left where a refusal leaves all as it was: that session, or the new one and the count that is told of it.
-fn settled(session: Session, told: Told, next: Session, count: usize) -> Outcome
-    ensures { Leaves session told next count result }
-{
-    match told {
-        Told::Refused(number, k) => refused(session, number, k),
-        Told::Done => {
-            let answer = Answer {
+impl Answer {
+    // What was told, in numbers.
+    fn of(told: Result<(), Refusal>, count: usize) -> Self
+        ensures { result ≡ in_numbers told count }
+    {
+        match told {
+            Ok(()) => Self {
                 reason: 0,
                 label: 0,
                 count,
-            };
-            Outcome {
-                session: next,
-                answer,
-            }
+            },
+            Err(refusal) => Self {
+                reason: refusal.reason.number(),
+                label: refusal.label,
+                count,
+            },
         }
+    }
+}
+
+// What refuses a session whose count no program has: the program's own refusal, else that the size is wrong.
+fn over(file: &[u8]) -> Refusal
+    ensures { OverSays file.now (number_of result.reason) result.label }
+{
+    match program::check(file) {
+        Ok(_) => Refusal::at(Reason::WrongSize, 0),
+        Err(refusal) => refusal,
+    }
+}
+
+// The next session, or the one that was lent where that is refused.
+fn settled(session: Session, next: Result<Session, Refusal>) -> Outcome
+    ensures { result ≡ left session next }
+{
+    match next {
+        Ok(session) => Outcome {
+            session,
+            answer: Answer::of(Ok(()), 0),
+        },
+        Err(refusal) => Outcome {
+            session,
+            answer: Answer::of(Err(refusal), 0),
+        },
+    }
+}
+
+// A step as a run of one: a refused step makes none.
+fn counted(step: Stepped) -> Ran
+    ensures { result ≡ record { told = step.told; steps = steps_of step.told; place = step.place } }
+{
+    Ran {
+        told: step.told,
+        steps: u32::from(step.told.is_ok()),
+        place: step.place,
+    }
+}
+
+// A move of the session by a call that is lent its store: a refused one hands back the place, and leaves the store.
+fn moved<F: FnOnce(&mut [i32]) -> Ran>(file: &[u8], session: &Session, go: F) -> Outcome
+    requires { F.IsAlwaysCallable go }
+    ensures { MoveSays (By (F.post go) session.now) file.now session.now result }
+{
+    let count = session.count;
+    if CELLS < count {
+        return Outcome {
+            session: *session,
+            answer: Answer::of(Err(over(file)), 0),
+        };
+    }
+    let mut cells = session.cells;
+    let Ran { told, steps, place } = go(&mut cells[..count]);
+    Outcome {
+        session: Session {
+            place,
+            count,
+            cells,
+        },
+        answer: Answer::of(told, steps as usize),
     }
 }
 
@@ -114,97 +137,52 @@ fn settled(session: Session, told: Told, next: Session, count: usize) -> Outcome
 pub fn stepped(file: &[u8], session: Session) -> Outcome
     ensures { SteppedSays step file.now session result }
 {
-    let count = session.count;
-    if CELLS < count {
-        return over(file, session);
-    }
-    let place = session.place;
-    let mut cells = session.cells;
-    let r = machine::step(file, place, &mut cells[..count]);
-    let told = r.told;
-    let place = r.place;
-    let next = Session {
-        place,
-        count,
-        cells,
-    };
-    settled(session, told, next, 1)
+    moved(
+        file,
+        &session,
+        |store: &mut [i32]| -> Ran
+            ensures { Steps step file.entry.now session.place store.old result store.new }
+        { counted(machine::step(file, session.place, store)) },
+    )
 }
 
 // A step back.
 pub fn stepped_back(file: &[u8], session: Session) -> Outcome
     ensures { SteppedSays step_back file.now session result }
 {
-    let count = session.count;
-    if CELLS < count {
-        return over(file, session);
-    }
-    let place = session.place;
-    let mut cells = session.cells;
-    let r = machine::back(file, place, &mut cells[..count]);
-    let told = r.told;
-    let place = r.place;
-    let next = Session {
-        place,
-        count,
-        cells,
-    };
-    settled(session, told, next, 1)
+    moved(
+        file,
+        &session,
+        |store: &mut [i32]| -> Ran
+            ensures { Steps step_back file.entry.now session.place store.old result store.new }
+        { counted(machine::back(file, session.place, store)) },
+    )
 }
 
 // At most n steps forward.
 pub fn ran(file: &[u8], session: Session, n: u32) -> Outcome
     ensures { RanSays run file.now session n result }
 {
-    let count = session.count;
-    if CELLS < count {
-        return over(file, session);
-    }
-    let place = session.place;
-    let mut cells = session.cells;
-    let r = machine::run(file, place, &mut cells[..count], n);
-    let told = r.told;
-    let place = r.place;
-    let answer = in_numbers(told, r.steps as usize);
-    let session = Session {
-        place,
-        count,
-        cells,
-    };
-    Outcome { session, answer }
+    moved(
+        file,
+        &session,
+        |store: &mut [i32]| -> Ran
+            ensures { Runs run file.entry.now session.place n store.old result store.new }
+        { machine::run(file, session.place, store, n) },
+    )
 }
 
 // At most n steps back.
 pub fn ran_back(file: &[u8], session: Session, n: u32) -> Outcome
     ensures { RanSays run_back file.now session n result }
 {
-    let count = session.count;
-    if CELLS < count {
-        return over(file, session);
-    }
-    let place = session.place;
-    let mut cells = session.cells;
-    let r = machine::run_back(file, place, &mut cells[..count], n);
-    let told = r.told;
-    let place = r.place;
-    let answer = in_numbers(told, r.steps as usize);
-    let session = Session {
-        place,
-        count,
-        cells,
-    };
-    Outcome { session, answer }
-}
-
-// Zeros in every cell.
-fn clear(store: &mut [i32])
-    ensures { store.new ≡ replicate (length store.old) (pos 0) }
-{
-    let mut i = 0;
-    while i < store.len() {
-        store[i] = 0;
-        i += 1;
-    }
+    moved(
+        file,
+        &session,
+        |store: &mut [i32]| -> Ran
+            ensures { Runs run_back file.entry.now session.place n store.old result store.new }
+        { machine::run_back(file, session.place, store, n) },
+    )
 }
 
 // The session at a place, its first `count` cells zeros.
@@ -213,7 +191,7 @@ fn laid_out(session: Session, place: Place, count: usize) -> Session
     ensures { result ≡ laid session place count (replicate count (pos 0)) }
 {
     let mut cells = session.cells;
-    clear(&mut cells[..count]);
+    cells[..count].fill(0);
     Session {
         place,
         count,
@@ -221,47 +199,41 @@ fn laid_out(session: Session, place: Place, count: usize) -> Session
     }
 }
 
+// The session of a start, up or down.
+fn begun(file: &[u8], session: Session, direction: u32) -> Result<Session, Refusal>
+    ensures { BeginSays file.now session direction (left session result) }
+{
+    let counts = program::check(file)?;
+    let place = machine::start(file, direction != 0)?;
+    Ok(laid_out(session, place, counts.cells))
+}
+
 // A start of the program over zeros, down where the direction is 0, else up.
 pub fn started(file: &[u8], session: Session, direction: u32) -> Outcome
     ensures { BeginSays file.now session direction result }
 {
-    match program::check(file) {
-        Checked::Refused(number, k) => refused(session, number, k),
-        Checked::Accepted(_, _, count) => {
-            let r = machine::start(file, direction != 0);
-            let told = r.told;
-            let place = r.place;
-            let next = laid_out(session, place, count);
-            settled(session, told, next, 0)
-        }
-    }
+    settled(session, begun(file, session, direction))
 }
 
-// The session of a session file, for a program of so many cells.
-fn read_in(file: &[u8], saved: &[u8], session: Session, count: usize) -> Outcome
-    requires { count ≤ 2048 }
-    ensures { Settles file.now saved.now session count result }
+// The session that is read from a session file.
+fn found(file: &[u8], saved: &[u8], session: Session) -> Result<Session, Refusal>
+    ensures { OpenSays file.now saved.now session (left session result) }
 {
+    let count = program::check(file)?.cells;
     let mut cells = session.cells;
-    let r = saved::read(file, saved, &mut cells[..count]);
-    let told = r.told;
-    let place = r.place;
-    let next = Session {
+    let place = saved::read(file, saved, &mut cells[..count])?;
+    Ok(Session {
         place,
         count,
         cells,
-    };
-    settled(session, told, next, 0)
+    })
 }
 
 // The session of a session file.
 pub fn opened(file: &[u8], saved: &[u8], session: Session) -> Outcome
     ensures { OpenSays file.now saved.now session result }
 {
-    match program::check(file) {
-        Checked::Refused(number, k) => refused(session, number, k),
-        Checked::Accepted(_, _, count) => read_in(file, saved, session, count),
-    }
+    settled(session, found(file, saved, session))
 }
 
 // The session file of a session, into the buffer.
@@ -270,14 +242,12 @@ pub fn saving(file: &[u8], session: Session, buffer: &mut [u8]) -> Answer
 {
     let count = session.count;
     if CELLS < count {
-        let o = over(file, session);
-        return o.answer;
+        return Answer::of(Err(over(file)), 0);
     }
-    let place = session.place;
-    let cells = session.cells;
-    let r = saved::save(file, place, &cells[..count], buffer);
-    let told = r.told;
-    in_numbers(told, r.written)
+    match saved::save(file, session.place, &session.cells[..count], buffer) {
+        Ok(written) => Answer::of(Ok(()), written),
+        Err(refusal) => Answer::of(Err(refusal), 0),
+    }
 }
 
 // What a check of the file tells.
@@ -285,16 +255,16 @@ pub fn ladrukhi_check(file: &[u8]) -> Counts
     ensures { CheckSays file.now result }
 {
     match program::check(file) {
-        Checked::Accepted(records, procedures, cells) => Counts {
+        Ok(counts) => Counts {
             reason: 0,
             label: 0,
-            records,
-            procedures,
-            cells,
+            records: counts.records,
+            procedures: counts.procedures,
+            cells: counts.cells,
         },
-        Checked::Refused(number, k) => Counts {
-            reason: number,
-            label: k,
+        Err(refusal) => Counts {
+            reason: refusal.reason.number(),
+            label: refusal.label,
             records: 0,
             procedures: 0,
             cells: 0,
@@ -304,58 +274,56 @@ pub fn ladrukhi_check(file: &[u8]) -> Counts
 
 // ---- over a session that is lent: the session is copied, moved by value and stored
 
+impl Outcome {
+    // The session goes where one was lent; the answer.
+    fn stored(self, session: &mut Session) -> Answer
+        ensures { made result session.new ≡ self }
+    {
+        *session = self.session;
+        self.answer
+    }
+}
+
 // A start of the program, 0 down, else up.
 pub fn ladrukhi_start(file: &[u8], session: &mut Session, direction: u32) -> Answer
     ensures { BeginSays file.now session.old direction (made result session.new) }
 {
-    let o = started(file, *session, direction);
-    *session = o.session;
-    o.answer
+    started(file, *session, direction).stored(session)
 }
 
 // The session of a session file.
 pub fn ladrukhi_open(file: &[u8], saved: &[u8], session: &mut Session) -> Answer
     ensures { OpenSays file.now saved.now session.old (made result session.new) }
 {
-    let o = opened(file, saved, *session);
-    *session = o.session;
-    o.answer
+    opened(file, saved, *session).stored(session)
 }
 
 // A step forward.
 pub fn ladrukhi_step(file: &[u8], session: &mut Session) -> Answer
     ensures { SteppedSays step file.now session.old (made result session.new) }
 {
-    let o = stepped(file, *session);
-    *session = o.session;
-    o.answer
+    stepped(file, *session).stored(session)
 }
 
 // A step back.
 pub fn ladrukhi_back(file: &[u8], session: &mut Session) -> Answer
     ensures { SteppedSays step_back file.now session.old (made result session.new) }
 {
-    let o = stepped_back(file, *session);
-    *session = o.session;
-    o.answer
+    stepped_back(file, *session).stored(session)
 }
 
 // At most n steps forward.
 pub fn ladrukhi_run(file: &[u8], session: &mut Session, n: u32) -> Answer
     ensures { RanSays run file.now session.old n (made result session.new) }
 {
-    let o = ran(file, *session, n);
-    *session = o.session;
-    o.answer
+    ran(file, *session, n).stored(session)
 }
 
 // At most n steps back.
 pub fn ladrukhi_run_back(file: &[u8], session: &mut Session, n: u32) -> Answer
     ensures { RanSays run_back file.now session.old n (made result session.new) }
 {
-    let o = ran_back(file, *session, n);
-    *session = o.session;
-    o.answer
+    ran_back(file, *session, n).stored(session)
 }
 
 // The session file of the session, into the buffer.

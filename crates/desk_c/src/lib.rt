@@ -1,4 +1,5 @@
 // What C calls: the functions of `desk` over a session that is lent, under C's names, each with the clauses that it has there.
+// Stays: (a) the C interface: a crate is a library or a static library, so that the names for C stand apart from the functions that Rattle calls.
 #![tactic(auto)]
 
 ghost use Rattle.moves.specs.Step.{step, step_back};

@@ -7,8 +7,8 @@
 --     eval_fits      cells and constants in an i32's range give a value in that range
 use mathlib.Core.Path.{◌≡◌, refl, sym, ap, ap₂, ◌∙◌}
 use mathlib.Core.List.{List}
-use mathlib.Core.Logic.{◌⊎◌, inl, inr, ⊎_elim}
-use mathlib.Core.Bool.{Bool, true, false, cond, ◌||◌, false≢true}
+use mathlib.Core.Logic.{⊎_elim}
+use mathlib.Core.Bool.{Bool, true, false, cond, false≢true}
 use Prim.Native.Nat.{ℕ, ◌+◌}
 use borrow.Author.Tests.{eq-eqb, eqb-true, ltb-true}
 use lib.Dec.{eqb, ltb}
@@ -17,26 +17,18 @@ use lib.ListN.{get_or, set}
 use lib.Seq.{get_or-set_other}
 use mir.Syntax.{w32}
 use mir.Val.{SFits}
+use Rattle.std.proofs.lemmas.Bool.{and_parts, or_cases, or_left, or_right}
 use Rattle.values.specs.Values.{Value, is, zero_divisor, apply_op}
-use Rattle.values.specs.Packed.{InRange}
+use Rattle.values.specs.Given.{InRange}
 use Rattle.values.proofs.Laws.{apply_fits}
 use Rattle.expr.specs.Tree.{any_name, Expr, con, var, read, bin, Valid, Arrays, bad_index, Worth, value, stop, worth_of, element, eval, known}
-use Rattle.expr.specs.Agreement.{both, indexed, Name, scalar, array, is_array, occurs, There, Same, Apart}
+use Rattle.expr.specs.Agreement.{both, indexed, Name, Scalar, Array, is_array, occurs, There, Same, Apart}
 use Rattle.expr.specs.Answers.{InCell}
-use Rattle.expr.proofs.Layer.{and_true}
 use Rattle.expr.proofs.Knowns.{var_known, read_known, bin_known}
-
--- ---- tests of two
-either_left : (a b : Bool) → a ≡ true → (a || b) ≡ true
-either_left a b e = rw e
-
-either_right : (a b : Bool) → b ≡ true → (a || b) ≡ true
-either_right true b e = refl
-either_right false b e = e
 
 -- ---- the array read
 module _ (arrays : Arrays) (σ τ : List ℤ) where
-  element_same : (a : ℕ) (z : ℤ) → Same (array a) arrays σ τ → element arrays σ a z ≡ element arrays τ a z
+  element_same : (a : ℕ) (z : ℤ) → Same (Array a) arrays σ τ → element arrays σ a z ≡ element arrays τ a z
   unfolding element
   element_same a (negsuc i) h = refl
   element_same a (pos i) h = go (ltb i (get_or arrays.lengths a 0)) refl
@@ -46,7 +38,7 @@ module _ (arrays : Arrays) (σ τ : List ℤ) where
       go true e = ap value (h i (ltb-true i (get_or arrays.lengths a 0) e))
       go false e = refl
 
-  indexed_same : (a : ℕ) (w : Worth) → Same (array a) arrays σ τ → indexed arrays σ a w ≡ indexed arrays τ a w
+  indexed_same : (a : ℕ) (w : Worth) → Same (Array a) arrays σ τ → indexed arrays σ a w ≡ indexed arrays τ a w
   indexed_same a (stop f) h = refl
   indexed_same a (value i) h = element_same a i h
 
@@ -54,36 +46,32 @@ module _ (arrays : Arrays) (σ τ : List ℤ) where
   pub eval_names : (e : Expr) → ((n : Name) → occurs n e ≡ true → Same n arrays σ τ) → eval arrays σ e ≡ eval arrays τ e
   unfolding eval occurs any_name
   eval_names (con v) h = refl
-  eval_names (var x) h = ap value (h (scalar x) (eq-eqb x x refl))
+  eval_names (var x) h = ap value (h (Scalar x) (eq-eqb x x refl))
   eval_names (read a i) h =
-      ap (indexed arrays σ a) (eval_names i (λ n o. h n (either_right (is_array n a) (occurs n i) o)))
-      ∙ indexed_same a (eval arrays τ i) (h (array a) (either_left (eqb a a) (occurs (array a) i) (eq-eqb a a refl)))
+      ap (indexed arrays σ a) (eval_names i (λ n o. h n (or_right (is_array n a) (occurs n i) o)))
+      ∙ indexed_same a (eval arrays τ i) (h (Array a) (or_left (eqb a a) (occurs (Array a) i) (eq-eqb a a refl)))
   eval_names (bin o l r) h =
-      ap₂ (both o) (eval_names l (λ n p. h n (either_left (occurs n l) (occurs n r) p))) (eval_names r (λ n p. h n (either_right (occurs n l) (occurs n r) p)))
+      ap₂ (both o) (eval_names l (λ n p. h n (or_left (occurs n l) (occurs n r) p))) (eval_names r (λ n p. h n (or_right (occurs n l) (occurs n r) p)))
 
 -- ---- a name that does not occur
-which : (a b : Bool) → (a || b) ≡ true → (a ≡ true) ⊎ (b ≡ true)
-which true b e = inl refl
-which false b e = inr e
-
 set_same : (m : Name) (layout : Arrays) (σ : List ℤ) (cell : ℕ) (v : ℤ) → Apart m layout cell → Same m layout (set σ cell v) σ
-set_same (scalar x) layout σ cell v d = get_or-set_other σ cell x v (pos 0) d
-set_same (array a) layout σ cell v d = λ i h. get_or-set_other σ cell (get_or layout.starts a 0 + i) v (pos 0) (d i h)
+set_same (Scalar x) layout σ cell v d = get_or-set_other σ cell x v (pos 0) d
+set_same (Array a) layout σ cell v d = λ i h. get_or-set_other σ cell (get_or layout.starts a 0 + i) v (pos 0) (d i h)
 
 module _ (scalars arrays : ℕ) where
   -- a name that occurs in an expression whose names are there is there
   pub occurs_there : (m : Name) (e : Expr) → known scalars arrays e ≡ true → occurs m e ≡ true → There scalars arrays m
   unfolding occurs any_name
   occurs_there m (con v) k o = absurd (false≢true o)
-  occurs_there (scalar x) (var y) k o = rw (eqb-true y x o) at (ltb-true y scalars (sym (var_known scalars arrays y) ∙ k))
-  occurs_there (array a) (var y) k o = absurd (false≢true o)
-  occurs_there (scalar x) (read b i) k o = occurs_there (scalar x) i (and_true (ltb b arrays) (known scalars arrays i) (sym (read_known scalars arrays b i) ∙ k)).1 o
-  occurs_there (array a) (read b i) k o =
-      let both = and_true (ltb b arrays) (known scalars arrays i) (sym (read_known scalars arrays b i) ∙ k) in
-      ⊎_elim (λ p. rw (eqb-true b a p) at (ltb-true b arrays both.0)) (λ p. occurs_there (array a) i both.1 p) (which (eqb b a) (occurs (array a) i) o)
+  occurs_there (Scalar x) (var y) k o = rw (eqb-true y x o) at (ltb-true y scalars (sym (var_known scalars arrays y) ∙ k))
+  occurs_there (Array a) (var y) k o = absurd (false≢true o)
+  occurs_there (Scalar x) (read b i) k o = occurs_there (Scalar x) i (and_parts (ltb b arrays) (known scalars arrays i) (sym (read_known scalars arrays b i) ∙ k)).1 o
+  occurs_there (Array a) (read b i) k o =
+      let both = and_parts (ltb b arrays) (known scalars arrays i) (sym (read_known scalars arrays b i) ∙ k) in
+      ⊎_elim (λ p. rw (eqb-true b a p) at (ltb-true b arrays both.0)) (λ p. occurs_there (Array a) i both.1 p) (or_cases (eqb b a) (occurs (Array a) i) o)
   occurs_there m (bin p l r) k o =
-      let both = and_true (known scalars arrays l) (known scalars arrays r) (sym (bin_known scalars arrays p l r) ∙ k) in
-      ⊎_elim (λ q. occurs_there m l both.0 q) (λ q. occurs_there m r both.1 q) (which (occurs m l) (occurs m r) o)
+      let both = and_parts (known scalars arrays l) (known scalars arrays r) (sym (bin_known scalars arrays p l r) ∙ k) in
+      ⊎_elim (λ q. occurs_there m l both.0 q) (λ q. occurs_there m r both.1 q) (or_cases (occurs m l) (occurs m r) o)
 
   pub eval_keeps : (n : Name) (e : Expr) (layout : Arrays) (σ τ : List ℤ) → known scalars arrays e ≡ true → occurs n e ≡ false
       → ((m : Name) → There scalars arrays m → (m ≡ n → ⊥) → Same m layout σ τ) → eval layout σ e ≡ eval layout τ e

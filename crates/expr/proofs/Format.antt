@@ -14,14 +14,15 @@ use lib.ListN.{length, get_or, drop, length-append, length-drop}
 use lib.Seq.{drop-drop, drop-append_seam}
 use lib.Dec.{eqb, ltb}
 use borrow.Author.Tests.{le-leb, leb-true, lt-ltb, ltb-true, eqb-true, eq-eqb}
+use Rattle.std.proofs.lemmas.Bool.{and_parts}
 use Rattle.codes.specs.Codes.{bytes16, word16, AllBytes}
 use Rattle.codes.proofs.Rows.{one_byte, two_bytes, byte_of, head_of, short_lt, cell_fits, short_bytes, cell_bytes_lem, short_back, cell_back}
 use Rattle.expr.specs.Tree.{Expr, con, var, read, bin, depth, Valid, encode}
 use Rattle.expr.specs.Bytes.{Stands, Got, up_to, parse, whole, got_con, got_var, got_read, got_bin}
-use Rattle.expr.specs.Answers.{EndSays, end_of, pick_end}
-use Rattle.expr.specs.declared.End.{End}
-use Rattle.expr.specs.declared.End.TheVariants.{At, Bad}
-use Rattle.expr.proofs.Layer.{whole_ok, upto_step, layer_con, layer_var, layer_read, layer_bin, layer_cases, and_true}
+use Rattle.expr.specs.Answers.{EndSays, end_of}
+use Rattle.std.proofs.Common.{Option, Some, None}
+use Rattle.std.specs.Bool.{then_some}
+use Rattle.expr.proofs.Layer.{whole_ok, upto_step, layer_con, layer_var, layer_read, layer_bin, layer_cases}
 
 -- what is ok lies within the bytes
 pub inside : (d : ℕ) (s : List ℕ) (at : ℕ) → (parse d s at).ok ≡ true → at < length s
@@ -77,9 +78,9 @@ module _ (s : List ℕ) (B : AllBytes s) where
       (λ h e o. good_var at d e (leb-true (at + 3) (length s) o))
       (λ h e o. good_read at d (parse d s (at + 3)) e (inside d s (at + 3) o) (sound d (at + 3) o))
       (λ h a b c o.
-      let x = and_true (eqb (get_or s at 0) 3) _ o in
-      let y = and_true (ltb (get_or s (at + 1) 0) 16) _ x.1 in
-      let z = and_true (parse d s (at + 2)).ok _ y.1 in
+      let x = and_parts (eqb (get_or s at 0) 3) _ o in
+      let y = and_parts (ltb (get_or s (at + 1) 0) 16) _ x.1 in
+      let z = and_parts (parse d s (at + 2)).ok _ y.1 in
       good_bin at d (parse d s (at + 2)) (parse d s (parse d s (at + 2)).next) (eqb-true _ 3 x.0) (ltb-true _ 16 y.0) (inside d s (at + 2) z.0)
       (sound d (at + 2) z.0)
       (sound d (parse d s (at + 2)).next z.1))
@@ -171,20 +172,20 @@ module _ (s : List ℕ) (B : AllBytes s) (at d : ℕ) where
   unfolding EndSays Stands
   says = go (parse d s at).ok refl
     where
-      go : (b : Bool) → (parse d s at).ok ≡ b → EndSays s at d (pick_end b (parse d s at).next)
+      go : (b : Bool) → (parse d s at).ok ≡ b → EndSays s at d (then_some b (parse d s at).next)
       go true o = ((parse d s at).tree, sound s B d at o)
       go false o = λ e n v h st. false≢true (sym o ∙ ap (λ (g : Got). g.ok) (complete s e d at st.0 v h st.1))
 
-  only : (r : End) → EndSays s at d r → r ≡ end_of (parse d s at)
+  only : (r : Option ℕ) → EndSays s at d r → r ≡ end_of (parse d s at)
   unfolding EndSays Stands
-  only (At n) p =
+  only (Some n) p =
       let st = p.1.1.1 in
       rw (complete s p.0 d at st.0 p.1.0 p.1.1.0 st.1, ← st.2)
-  only Bad none = go (parse d s at).ok refl
+  only None none = go (parse d s at).ok refl
     where
-      go : (b : Bool) → (parse d s at).ok ≡ b → Bad ≡ pick_end b (parse d s at).next
+      go : (b : Bool) → (parse d s at).ok ≡ b → None ≡ then_some b (parse d s at).next
       go true o = let g = sound s B d at o in absurd (none (parse d s at).tree (parse d s at).next g.0 g.1.0 g.1.1)
       go false o = refl
 
-  pub determined : (r r' : End) → EndSays s at d r → EndSays s at d r' → r ≡ r'
+  pub determined : (r r' : Option ℕ) → EndSays s at d r → EndSays s at d r' → r ≡ r'
   determined r r' p q = only r p ∙ sym (only r' q)

@@ -3,7 +3,9 @@ use mathlib.Core.Path.{◌≡◌, refl, ap, ◌∙◌}
 use mathlib.Core.List.{List}
 use mathlib.Core.Bool.{Bool, true, false, not, ◌&&◌, ◌||◌}
 use Prim.Native.Nat.{ℕ, ◌+◌, ◌≤◌, ◌<◌}
+use Rattle.std.proofs.Math.Bool.{not-not}
 use lib.Dec.{ltb}
+use borrow.Author.Tests.{lt-ltb, le-ltb}
 use lib.IntN.{ℤ}
 use lib.ListN.{length, get_or}
 use Rattle.codes.specs.Codes.{word16}
@@ -14,10 +16,6 @@ use Rattle.expr.specs.declared.Known.{Known}
 use Rattle.expr.proofs.Layer.{whole_out, whole_con, whole_var, whole_read, whole_bin, whole_grows}
 
 -- ---- `known`, by the forms of a tree
-not_not : (a : Bool) → not (not a) ≡ a
-not_not true = refl
-not_not false = refl
-
 not_either : (a b : Bool) → not (a || b) ≡ not a && not b
 not_either true b = refl
 not_either false b = refl
@@ -29,11 +27,11 @@ module _ (scalars arrays : ℕ) where
 
   pub var_known : (x : ℕ) → known scalars arrays (var x) ≡ ltb x scalars
   unfolding known any_name
-  var_known x = not_not (ltb x scalars)
+  var_known x = not-not (ltb x scalars)
 
   pub read_known : (a : ℕ) (i : Expr) → known scalars arrays (read a i) ≡ ltb a arrays && known scalars arrays i
   unfolding known any_name
-  read_known a i = not_either (not (ltb a arrays)) _ ∙ ap (λ b. b && known scalars arrays i) (not_not (ltb a arrays))
+  read_known a i = not_either (not (ltb a arrays)) _ ∙ ap (λ b. b && known scalars arrays i) (not-not (ltb a arrays))
 
   pub bin_known : (o : ℕ) (l r : Expr) → known scalars arrays (bin o l r) ≡ known scalars arrays l && known scalars arrays r
   unfolding known any_name
@@ -58,13 +56,22 @@ module _ (scalars arrays : ℕ) (s : List ℕ) (at : ℕ) where
     pub known_var : (x : ℕ) → tag ≡ 1 → x ≡ word16 s (at + 1) → there (ltb x scalars) (at + 3) ≡ known_of scalars arrays (whole s at)
     known_var x e p = rw (whole_var s at h tag tg e, var_known scalars arrays, p)
 
-    pub known_read : (a : ℕ) (i : Known) (c : Bool) → tag ≡ 2 → a ≡ word16 s (at + 1) → i ≡ known_of scalars arrays (whole s (at + 3))
-        → c ≡ (ltb a arrays && i.ok) → there c i.next ≡ known_of scalars arrays (whole s at)
-    known_read a i c e p q v = rw (whole_read s at h tag tg e, read_known scalars arrays, v, p, q)
+    pub known_read : (a : ℕ) (i : Known) → tag ≡ 2 → a ≡ word16 s (at + 1) → i ≡ known_of scalars arrays (whole s (at + 3))
+        → there (ltb a arrays && i.ok) i.next ≡ known_of scalars arrays (whole s at)
+    known_read a i e p q = rw (whole_read s at h tag tg e, read_known scalars arrays, p, q)
+
+    -- its array is there, and it is not
+    pub known_inside : (a : ℕ) (i : Known) → tag ≡ 2 → a ≡ word16 s (at + 1) → i ≡ known_of scalars arrays (whole s (at + 3))
+        → a < arrays → there i.ok i.next ≡ known_of scalars arrays (whole s at)
+    known_inside a i e p q l = rw (lt-ltb a arrays l) at (known_read a i e p q)
+
+    pub known_none : (a : ℕ) (i : Known) → tag ≡ 2 → a ≡ word16 s (at + 1) → i ≡ known_of scalars arrays (whole s (at + 3))
+        → arrays ≤ a → there false i.next ≡ known_of scalars arrays (whole s at)
+    known_none a i e p q l = rw (le-ltb a arrays l) at (known_read a i e p q)
 
     pub known_bin : (l r : Known) (b : Bool) → (tag ≡ 0 → ⊥) → (tag ≡ 1 → ⊥) → (tag ≡ 2 → ⊥) → l ≡ known_of scalars arrays (whole s (at + 2))
         → r ≡ known_of scalars arrays (whole s l.next) → b ≡ (l.ok && r.ok) → there b r.next ≡ known_of scalars arrays (whole s at)
     known_bin l r b n0 n1 n2 p q u = rw (whole_bin s at h tag tg n0 n1 n2, bin_known scalars arrays, u, q, p)
 
 -- the cases, for `search`
-pub ruleset knowns = (known_out, known_con, known_var, known_read, known_bin)
+pub ruleset knowns = (known_out, known_con, known_var, known_inside, known_none, known_bin)

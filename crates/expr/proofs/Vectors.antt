@@ -6,10 +6,10 @@ use Prim.Native.Nat.{ℕ, zero, suc}
 use lib.IntN.{pos, negsuc}
 use Rattle.values.specs.Values.{apply_op}
 use Rattle.expr.specs.Tree.{any_name, Expr, con, var, read, bin, depth, encode, element, eval, Worth, value, stop, div_by_zero, bad_index}
-use Rattle.expr.specs.Agreement.{scalar, array, occurs}
+use Rattle.expr.specs.Agreement.{Scalar, Array, occurs}
 use Rattle.expr.specs.Bytes.{up_to, parse, layer}
 use Rattle.expr.specs.Answers.{end_of}
-use Rattle.expr.specs.declared.End.TheVariants.{At, Bad}
+use Rattle.std.proofs.Common.{Some, None}
 
 -- two scalars, 1 and -8, then an array of length 2 with the cells 5 and 9
 abbrev pub worth_in : Expr → Worth
@@ -49,15 +49,15 @@ unfolding eval apply_op element
 index_first = refl
 
 -- scalar 0 and array 0 are two names; an index and both sides are searched
-pub two_names : (occurs (scalar 0) (read 0 (con (pos 0))) ≡ false) × (occurs (array 0) (var 0) ≡ false)
+pub two_names : (occurs (Scalar 0) (read 0 (con (pos 0))) ≡ false) × (occurs (Array 0) (var 0) ≡ false)
 unfolding occurs any_name
 two_names = (refl, refl)
 
-pub in_the_index : occurs (scalar 0) (read 1 (var 0)) ≡ true
+pub in_the_index : occurs (Scalar 0) (read 1 (var 0)) ≡ true
 unfolding occurs any_name
 in_the_index = refl
 
-pub on_the_left : occurs (scalar 0) (bin 0 (var 0) (con (pos 1))) ≡ true
+pub on_the_left : occurs (Scalar 0) (bin 0 (var 0) (con (pos 1))) ≡ true
 unfolding occurs any_name
 on_the_left = refl
 
@@ -75,10 +75,10 @@ abbrev pub nested : ℕ → Expr
 nested zero = var 0
 nested (suc n) = read 0 (nested n)
 
-pub sixteen : (depth (nested 15) ≡ 16) × (end_of (parse 16 (encode (nested 15)) 0) ≡ At 48)
+pub sixteen : (depth (nested 15) ≡ 16) × (end_of (parse 16 (encode (nested 15)) 0) ≡ Some 48)
 unfolding depth up_to layer encode
 sixteen = (refl, refl)
 
-pub seventeen : (depth (nested 16) ≡ 17) × (end_of (parse 16 (encode (nested 16)) 0) ≡ Bad)
+pub seventeen : (depth (nested 16) ≡ 17) × (end_of (parse 16 (encode (nested 16)) 0) ≡ None)
 unfolding depth up_to layer encode
 seventeen = (refl, refl)

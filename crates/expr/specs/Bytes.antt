@@ -1,6 +1,6 @@
 -- What stands at a position of the bytes: the format, and the reader that answers for any bytes.
 -- Assumes nothing: these are definitions.
-use Rattle.std.specs.Prelude.{ℕ, zero, suc, ◌+◌, ◌-◌, ◌≡◌, List, ◌++◌, Bool, true, false, ◌&&◌, length, get_or, drop, ltb, leb, eqb, pos}
+use Rattle.std.specs.Prelude.{ℕ, zero, suc, ◌+◌, ◌-◌, ◌≡◌, List, ◌++◌, Bool, false, ◌&&◌, cond, length, get_or, drop, ltb, leb, eqb, pos}
 use Rattle.codes.specs.Codes.{word16}
 use Rattle.codes.specs.Numbers.{cell_at}
 use Rattle.expr.specs.Tree.{Expr, con, var, read, bin, encode}
@@ -33,17 +33,13 @@ got_bin o l r = record { ok = ltb o 16 && (l.ok && r.ok); tree = bin o l.tree r.
 abbrev pub got_if : Bool → Got → Got
 got_if b g = record { ok = b && g.ok; tree = g.tree; next = g.next }
 
-abbrev pub pick_got : Bool → Got → Got → Got
-pick_got true a b = a
-pick_got false a b = b
-
 -- one layer of a tree before position m, by its first byte, over what `sub` reads further on; a byte over 3 is read as 3, and is not ok
 unfoldable pub layer : ℕ → (ℕ → Got) → List ℕ → ℕ → Got
 layer m sub s at =
-    pick_got (ltb at m)
-    (pick_got (eqb (get_or s at 0) 0) (got_con m s at)
-    (pick_got (eqb (get_or s at 0) 1) (got_var m s at)
-    (pick_got (eqb (get_or s at 0) 2) (got_read (word16 s (at + 1)) (sub (at + 3)))
+    cond (ltb at m)
+    (cond (eqb (get_or s at 0) 0) (got_con m s at)
+    (cond (eqb (get_or s at 0) 1) (got_var m s at)
+    (cond (eqb (get_or s at 0) 2) (got_read (word16 s (at + 1)) (sub (at + 3)))
     (got_if (eqb (get_or s at 0) 3) (got_bin (get_or s (at + 1) 0) (sub (at + 2)) (sub (sub (at + 2)).next))))))
     (nothing at)
 

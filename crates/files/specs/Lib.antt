@@ -1,2 +1,2 @@
 -- The definitions of `files`.
-pub mod Got
+pub mod Told

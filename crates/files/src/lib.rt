@@ -3,75 +3,47 @@
 #![tactic(auto)]
 
 ghost use Rattle.std.specs.Prelude.{◌≡◌, ◌≤◌, length};
-ghost use Rattle.files.specs.Got.{Above, Outcome, Within, Replaced, Said};
+ghost use Rattle.files.specs.Told.{Above, Outcome, Within, Replaced, Said};
 
-use std::io::{Error, Print, Read, Result, Write};
-use std::{fs, process, str};
+use errno::{EBADF, EILSEQ, ENAMETOOLONG};
+use std::io::{Error, Print, Read, Write};
+use std::{fs, io, process, str};
 
-// The system's numbers of the errors that are told apart here.
-const EIO: i32 = 5;
+mod errno;
 
-const EBADF: i32 = 9;
+pub use errno::Failure;
 
-const ENAMETOOLONG: i32 = 36;
-
-const EILSEQ: i32 = 84;
-
-// How many bytes were read, or the error's number.
-#[derive(Drop)]
-pub enum Got {
-    All(usize),
-    Failed(i32),
-}
-
-// An error's number: above 0, since 0 says that nothing failed. (The second clause follows from the first; with both, callers need no proof file.)
-fn failure(error: &Error) -> i32
-    ensures above { Above result }
-    ensures outcome { Outcome result }
-{
-    let number = error.raw_os_error().unwrap_or(EIO);
-    if number > 0 { number } else { EIO }
-}
-
-// Reads until buf is full or the input ends.
-pub fn read_open(from: &mut impl Read, buf: &mut [u8]) -> Got
+// Reads until buf is full or the input ends; how many bytes were read.
+pub fn read_open(from: &mut impl Read, buf: &mut [u8]) -> Result<usize, Failure>
     ensures { Within result (length buf.new) }
 {
     let mut done: usize = 0;
+    // Stays: (d) a turn takes as many bytes as the system gives, so no range or iterator is gone over.
     while done < buf.len() {
-        match from.read(&mut buf[done..]) {
-            Ok(0) => return Got::All(done),
-            Ok(more) => done += more,
-            Err(error) => return Got::Failed(failure(&error)),
+        let more = from.read(&mut buf[done..])?;
+        if more == 0 {
+            return Ok(done);
         }
+        done += more;
     }
-    Got::All(done)
+    Ok(done)
 }
 
 // The file name that these bytes are. A name of today's std is text: other bytes are the error 84 (EILSEQ).
-fn text(name: &[u8]) -> Result<&str> {
-    match str::from_utf8(name) {
-        Ok(text) => Ok(text),
-        Err(_) => Err(Error::from_raw_os_error(EILSEQ)),
-    }
-}
-
-fn open(rt: &HostRuntime, name: &[u8]) -> Result<fs::File> {
-    fs::open(rt, text(name)?)
+fn text(name: &[u8]) -> io::Result<&str> {
+    str::from_utf8(name).map_err(|_| Error::from_raw_os_error(EILSEQ))
 }
 
 // The same of the file with that name.
-pub fn read_named(rt: &HostRuntime, name: &[u8], buf: &mut [u8]) -> Got
+pub fn read_named(rt: &HostRuntime, name: &[u8], buf: &mut [u8]) -> Result<usize, Failure>
     ensures { Within result (length buf.new) }
 {
-    match open(rt, name) {
-        Ok(mut file) => read_open(&mut file, buf),
-        Err(error) => Got::Failed(failure(&error)),
-    }
+    let mut file = fs::open(rt, text(name)?)?;
+    read_open(&mut file, buf)
 }
 
 // Writes a new file and syncs it.
-fn write_new(rt: &HostRuntime, name: &[u8], bytes: &[u8]) -> Result<()> {
+fn write_new(rt: &HostRuntime, name: &[u8], bytes: &[u8]) -> io::Result<()> {
     let mut file = fs::create(rt, text(name)?)?;
     file.write_all(bytes)?;
     file.sync_all()
@@ -86,59 +58,57 @@ fn name_beside(rt: &HostRuntime, name: &[u8], beside: &mut [u8]) -> usize
     words::put_decimal(beside, j, u64::from(process::id(rt.process())))
 }
 
-// Room for a name that is too long for the system, which says so.
-fn no_name() -> [u8; 4200]
-    ensures { 4200 ≡ length result }
-{
-    [0; 4200]
-}
+// A name of so many bytes is too long for the system already.
+const LONGEST: usize = 4096;
 
-// The file `name` becomes these bytes, or stays as it was: they go to a new file beside it, which is synced and renamed over it, and removed on failure. 0, or the error's number.
-pub fn replace(rt: &HostRuntime, name: &[u8], bytes: &[u8]) -> i32
+// Room for a name that is too long for the system, which says so.
+const ROOM: usize = 4200;
+
+// The file `name` becomes these bytes, or stays as it was: they go to a new file beside it, which is synced and renamed over it, and removed on failure.
+pub fn replace(rt: &HostRuntime, name: &[u8], bytes: &[u8]) -> Result<(), Failure>
     ensures { Replaced name.now result }
 {
-    if name.len() > 4096 {
-        return ENAMETOOLONG;
+    if name.len() > LONGEST {
+        return Err(Failure {
+            number: ENAMETOOLONG,
+        });
     }
-    let mut beside = no_name();
+    let mut beside: [u8; ROOM] = words::full(0);
     let n = name_beside(rt, name, &mut beside);
     put_in_place(rt, &beside[..n], name, bytes)
 }
 
-fn put_in_place(rt: &HostRuntime, new: &[u8], name: &[u8], bytes: &[u8]) -> i32
+fn put_in_place(rt: &HostRuntime, new: &[u8], name: &[u8], bytes: &[u8]) -> Result<(), Failure>
     ensures { Outcome result }
 {
-    match renamed(rt, new, name, bytes) {
-        Ok(()) => 0,
-        Err(error) => {
-            // The file may not be there; the first reason is the one to tell.
-            let _ = removed(rt, new);
-            failure(&error)
-        }
-    }
+    renamed(rt, new, name, bytes).map_err(|error| {
+        // The file may not be there; the first reason is the one to tell.
+        let _ = removed(rt, new);
+        Failure::from(error)
+    })
 }
 
 // Writes the new file, and renames it where it was written.
-fn renamed(rt: &HostRuntime, new: &[u8], name: &[u8], bytes: &[u8]) -> Result<()> {
+fn renamed(rt: &HostRuntime, new: &[u8], name: &[u8], bytes: &[u8]) -> io::Result<()> {
     write_new(rt, new, bytes)?;
     fs::rename(rt, text(new)?, text(name)?)
 }
 
-fn removed(rt: &HostRuntime, name: &[u8]) -> Result<()> {
+fn removed(rt: &HostRuntime, name: &[u8]) -> io::Result<()> {
     fs::remove_file(rt, text(name)?)
 }
 
 // `PROGRAM: WHAT: WHY`
-fn told(err: &impl Print, program: &[u8], what: &[u8], error: i32) -> Result<()> {
+fn told(err: &impl Print, program: &[u8], what: &[u8], error: Failure) -> io::Result<()> {
     err.write_all(program)?;
     err.write_all(b": ")?;
     err.write_all(what)?;
     err.write_all(b": ")?;
-    err.println(Error::from_raw_os_error(error))
+    err.println(Error::from_raw_os_error(error.number))
 }
 
-// A line on standard error: which program, what, and why. The error is handed back.
-pub fn complain(rt: &HostRuntime, program: &[u8], what: &[u8], error: i32) -> i32
+// A line on standard error: which program, what, and why. The failure is handed back.
+pub fn complain(rt: &HostRuntime, program: &[u8], what: &[u8], error: Failure) -> Failure
     ensures { result ≡ error }
 {
     // Nobody is left to tell where standard error is closed too.
@@ -146,22 +116,22 @@ pub fn complain(rt: &HostRuntime, program: &[u8], what: &[u8], error: i32) -> i3
     error
 }
 
-// Writes to standard output: 0, or the error that was complained of; where that is closed, nobody wants to know.
-pub fn say(rt: &HostRuntime, program: &[u8], text: &[u8]) -> i32
+// Writes to standard output. A failure has been complained of; where standard output is closed, nobody wants to know.
+pub fn say(rt: &HostRuntime, program: &[u8], text: &[u8]) -> Result<(), Failure>
     ensures { Said result }
 {
     match rt.stdout().write_all(text) {
-        Ok(()) => 0,
-        Err(error) => unsaid(rt, program, failure(&error)),
+        Ok(()) => Ok(()),
+        Err(error) => unsaid(rt, program, Failure::from(error)),
     }
 }
 
-fn unsaid(rt: &HostRuntime, program: &[u8], error: i32) -> i32
-    requires { Above error }
+fn unsaid(rt: &HostRuntime, program: &[u8], error: Failure) -> Result<(), Failure>
+    requires { Above error.number }
     ensures { Said result }
 {
-    if error == EBADF {
-        return 0;
+    if error.number == EBADF {
+        return Ok(());
     }
-    complain(rt, program, b"standard output", error)
+    Err(complain(rt, program, b"standard output", error))
 }

@@ -28,8 +28,10 @@ use Rattle.moves.proofs.Accepted.{accepted_wf}
 use Rattle.moves.proofs.Follow.{clash}
 use Rattle.table.proofs.Facts.{facts}
 use Rattle.table.proofs.Tabled.{Tabled, open_of}
-use Rattle.fits.specs.Fits.{entry_at, call_kind, callee_of}
-use Rattle.fits.proofs.Cases.{slot_in}
+use Rattle.records.specs.Kinds.{calls}
+use Rattle.sections.specs.Look.{look_in}
+use borrow.Author.Tests.{lt-ltb}
+use Rattle.fits.specs.Fits.{entry_at, callee_of}
 
 -- ---- a record that calls
 abbrev pub Calls : Prog → ℕ → ℕ → Type 0
@@ -39,8 +41,8 @@ pub record Calling (P : Prog) (c : ℕ) : Type 0 where
   pub q : ℕ
   pub calls : Calls P c q
 
-calling : (P : Prog) (c : ℕ) (ρ : Rec) → P.at c ≡ ρ → call_kind (kind (forget ρ)) ≡ true → Calling P c
-unfolding call_kind kind
+calling : (P : Prog) (c : ℕ) (ρ : Rec) → P.at c ≡ ρ → calls (kind (forget ρ)) ≡ true → Calling P c
+unfolding kind
 calling P c (name_l v ls) e h = clash h refl
 calling P c (begin_l q) e h = clash h refl
 calling P c (end_l q) e h = clash h refl
@@ -63,7 +65,8 @@ module _ (f : List ℕ) (t : Tree) (tab : List ℕ) (a : Accepts f t) (T : Table
   small = (facts f t a).few
 
   entry_at_lem : (start x i : ℕ) → start + x < 9344 → start + x ≡ i → entry_at tab start x ≡ get_or tab i 0
-  entry_at_lem start x i h e = sym (slot_in 9344 tab (start + x) h) ∙ ap (λ (j : ℕ). get_or tab j 0) e
+  unfolding look_in
+  entry_at_lem start x i h e = rw (lt-ltb (start + x) 9344 h, e)
 
   module _ (x : ℕ) (h : x < length (records_of t)) where
     pub offset_is : entry_at tab 0 x ≡ get_or (offsets f) x 0
@@ -110,10 +113,10 @@ module _ (f : List ℕ) (t : Tree) (tab : List ℕ) (a : Accepts f t) (T : Table
     callee_is q (inl e) = let r = at_is t c ∙ ap forget e in reads q (call q) r refl (formed (call q) r)
     callee_is q (inr e) = let r = at_is t c ∙ ap forget e in reads q (uncall q) r refl (formed (uncall q) r)
 
-    pub call_is : (q : ℕ) → Calls P c q → call_kind (entry_at tab 1024 c) ≡ true
-    unfolding call_kind kind
-    call_is q (inl e) = ap call_kind (kind_is c h ∙ ap kind (at_is t c ∙ ap forget e))
-    call_is q (inr e) = ap call_kind (kind_is c h ∙ ap kind (at_is t c ∙ ap forget e))
+    pub call_is : (q : ℕ) → Calls P c q → calls (entry_at tab 1024 c) ≡ true
+    unfolding kind
+    call_is q (inl e) = ap calls (kind_is c h ∙ ap kind (at_is t c ∙ ap forget e))
+    call_is q (inr e) = ap calls (kind_is c h ∙ ap kind (at_is t c ∙ ap forget e))
 
-    pub call_there : call_kind (entry_at tab 1024 c) ≡ true → Calling P c
-    call_there k = calling P c (P.at c) refl (ap call_kind (ap kind (sym (at_is t c)) ∙ sym (kind_is c h)) ∙ k)
+    pub call_there : calls (entry_at tab 1024 c) ≡ true → Calling P c
+    call_there k = calling P c (P.at c) refl (ap calls (ap kind (sym (at_is t c)) ∙ sym (kind_is c h)) ∙ k)

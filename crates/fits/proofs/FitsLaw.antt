@@ -10,10 +10,11 @@ use lib.Dec.{eqb, ltb}
 use lib.ListN.{length}
 use native.Mathlib.Omega.{arith}
 use borrow.Author.Tests.{lt-ltb, ltb-true, eq-eqb, eqb-true, eqb-false}
+use Rattle.std.specs.Prelude.{Some}
 use Rattle.place.specs.declared.Place.{Place as Held}
 use Rattle.place.specs.Places.{Dir, down, up, opp, Place, Frame}
 use Rattle.place.specs.Slots.{dir_number, dir_of, frames_in, held, seen, Plain, Decides, plain_of}
-use Rattle.place.proofs.Held.{seen_held, plain_of_lem, plain_count, plain_kind}
+use Rattle.place.proofs.Held.{seen_held, plain_of_lem, plain_kind}
 use Rattle.records.specs.Records.{kind}
 use Rattle.order.specs.Trees.{Tree, records_of}
 use Rattle.program.specs.Says.{Accepts}
@@ -129,8 +130,8 @@ module _ (f : List ℕ) (t : Tree) (tab : List ℕ) (a : Accepts f t) (T : Table
     abbrev F : List Frame
     F = frames_in h.count h.kinds h.labels
 
-    listed : (g : ℕ) → chained f tab n h.kinds h.labels h.count (start_of tab g) ≡ chain f tab n F (start_of tab g)
-    listed g = chained_is f tab n h.kinds h.labels h.count (start_of tab g) (plain_count h y) (plain_kind h y)
+    listed : (g : ℕ) → chained f tab n h.kinds h.labels h.count (start_of tab g) ≡ chain f tab n F (Some (start_of tab g))
+    listed g = chained_is f tab n h.kinds h.labels h.count (start_of tab g) (plain_kind h y)
 
     gap_hit : (x z g : ℕ) → gap_fits f tab n h x z g ≡ true → Hit P x z F
     unfolding gap_fits
@@ -149,7 +150,7 @@ module _ (f : List ℕ) (t : Tree) (tab : List ℕ) (a : Accepts f t) (T : Table
               hi = hi;
               upper = sym (up_is f t tab a T g i) ∙ u;
               lower = sym (down_is f t tab a T g i) ∙ v;
-              found = sound f t tab a T F s.q g 0 s.lo hi (omega arith) (ap (chain f tab n F) (sym (start_at s.q g s.lo hi)) ∙ (sym (listed g) ∙ c));
+              found = sound f t tab a T F s.q g 0 s.lo hi (omega arith) (ap (chain f tab n F) (ap Some (sym (start_at s.q g s.lo hi))) ∙ (sym (listed g) ∙ c));
             }
 
     edge_hit : (x z : ℕ) → edge_fits f tab n h x z ≡ true → Hit P x z F
@@ -163,7 +164,7 @@ module _ (f : List ℕ) (t : Tree) (tab : List ℕ) (a : Accepts f t) (T : Table
           let i = there t w q (suc g) (omega arith) hi in
           rw (true_gap (tip P g up) (tip P g down) g
           (i, (up_is f t tab a T g i, (down_is f t tab a T g i, ap left (kind_at_lem g (omega arith)) ∙ left_at t P q g (P.at g) (w.here g) lo hi))))
-          (listed g ∙ (ap₂ (chain f tab n) is (start_at q g lo hi) ∙ complete f t tab a T q g cs lo hi good few))
+          (listed g ∙ (ap₂ (chain f tab n) is (ap Some (start_at q g lo hi)) ∙ complete f t tab a T q g cs lo hi good few))
 
       -- The gap is the one after its upper end, or the one after that one's ELSE or LOOP.
       which : (ρ : Rec) → P.at g ≡ ρ → Local t P ρ g → (off ρ g ≡ g) ⊎ (entry_at tab 3072 (off ρ g) ≡ g)

@@ -30,6 +30,16 @@ first_line (b ∷ []) h = last (eqb b 10)
 first_line (b ∷ (a ∷ s)) h =
     rw (ne_eqb (suc (length s)) 0 (λ e. omega arith)) (turn (eqb b 10) (a ∷ s) (first_line (a ∷ s) (omega arith)))
 
+-- a line has a byte at least
+pub lines_few : (s : List ℕ) → line_count s ≤ length s
+unfolding line_count
+lines_few [] = omega arith
+lines_few (b ∷ s) = one (eqb b 10 || eqb (length s) 0) (lines_few s)
+  where
+    one : (t : Bool) → line_count s ≤ length s → cond t (suc (line_count s)) (line_count s) ≤ suc (length s)
+    one true h = omega arith
+    one false h = omega arith
+
 module _ (s : List ℕ) where
   -- n lines stand before `at`
   pub record Counted (at n : ℕ) : Type 0 where

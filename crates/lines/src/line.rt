@@ -1,42 +1,82 @@
-// The words of a command line: where they stand, and the numbers that they are.
-use words::Number;
+ghost use Rattle.std.specs.Prelude.{◌≤◌, length};
 
-// The position after i, within the slice.
-pub(crate) fn past(s: &[u8], i: usize) -> usize {
-    if i < s.len() { i + 1 } else { i }
+// A command line as it is read: the stream, and how far that is read. A number or a sign of more may stand past the line's end.
+#[derive(Clone, Copy)]
+pub(crate) struct Line<'a> {
+    pub(crate) s: &'a [u8],
+    pub(crate) at: usize,
 }
 
-// Whether a word follows at i.
-pub(crate) fn more(s: &[u8], i: usize) -> bool {
-    words::byte_at(s, i) == b' '
-}
+impl<'a> Line<'a> {
+    // The line at `at`.
+    pub(crate) fn new(s: &'a [u8], at: usize) -> Self {
+        Line { s, at }
+    }
 
-// The first word after the command at `at`, or the line's end.
-pub(crate) fn first(s: &[u8], at: usize) -> usize {
-    let i = past(s, at);
-    if more(s, i) { past(s, i) } else { i }
-}
+    // Goes past a byte, within the stream.
+    fn skip(&mut self) {
+        if self.at < self.s.len() {
+            self.at += 1;
+        }
+    }
 
-// The number after the space at i.
-pub(crate) fn field(s: &[u8], i: usize) -> Number {
-    words::read_digits(s, past(s, i))
-}
+    // The command's letter.
+    pub(crate) fn command(&mut self) -> u8 {
+        let c = words::byte_at(self.s, self.at);
+        self.skip();
+        c
+    }
 
-// The nearest number of each width.
-pub(crate) fn byte(v: u64) -> u8 {
-    if v < 256 { v as u8 } else { 255 }
-}
+    // Whether a word follows.
+    pub(crate) fn more(&self) -> bool {
+        words::byte_at(self.s, self.at) == b' '
+    }
 
-pub(crate) fn half(v: u64) -> u16 {
-    if v < 65536 { v as u16 } else { 65535 }
-}
+    // The number of the next word.
+    pub(crate) fn number(&mut self) -> u64 {
+        self.skip();
+        let n = words::read_digits(self.s, self.at);
+        self.at = n.next;
+        n.value
+    }
 
-fn whole(v: u64) -> u32 {
-    if v < 4294967296 { v as u32 } else { 4294967295 }
-}
+    // That of the nearest u8.
+    pub(crate) fn byte(&mut self) -> u8 {
+        u8::try_from(self.number()).unwrap_or(u8::MAX)
+    }
 
-// N of a run.
-pub(crate) fn steps(s: &[u8], at: usize) -> u32 {
-    let n = field(s, past(s, at));
-    whole(n.value)
+    // That of the nearest u16.
+    pub(crate) fn half(&mut self) -> u16 {
+        u16::try_from(self.number()).unwrap_or(u16::MAX)
+    }
+
+    // That of the nearest u32.
+    pub(crate) fn whole(&mut self) -> u32 {
+        u32::try_from(self.number()).unwrap_or(u32::MAX)
+    }
+
+    // The number of the next word, or `room` where that is less.
+    pub(crate) fn within(&mut self, room: usize) -> usize
+        ensures { result ≤ room }
+    {
+        usize::try_from(self.number()).unwrap_or(room).min(room)
+    }
+
+    // The nearest cell to the next word, which may have a minus.
+    pub(crate) fn cell(&mut self) -> i32 {
+        self.skip();
+        let v = words::read_signed(self.s, self.at);
+        self.at = v.next;
+        words::nearest(v.value)
+    }
+
+    // The bytes of the next word, in hexadecimal, at the front of buf; how many they are.
+    pub(crate) fn bytes(&mut self, buf: &mut [u8]) -> usize
+        ensures { result ≤ length buf.new }
+    {
+        if self.more() {
+            self.skip();
+        }
+        words::hex_bytes(self.s, self.at, buf)
+    }
 }

@@ -14,7 +14,7 @@ use Rattle.machine.proofs.back.Reads as back
 use Rattle.machine.proofs.start.Reads as start
 
 pub start_determined : (κs : Lfts 1) (a : _) (r r' : _) (s s' : _) → start.Post κs a r s → start.Post κs a r' s' → AllBytes a.0.now → r ≡ r'
-start_determined κs a r r' s s' p q B = let z = start_one B p q in λ i. record { told = z.0 i; place = z.1 i }
+start_determined κs a r r' s s' p q B = start_one B p q
 
 module _ (κs : Lfts 2) where
   pub step_determined : (a : _) (r r' : _) (s s' : _) → step.Post κs a r s → step.Post κs a r' s' → AllBytes a.0.now → (r ≡ r') × (s.1.1.0.now ≡ s'.1.1.0.now)

@@ -5,6 +5,8 @@ use mathlib.Core.Path.{◌≡◌, refl, sym, ap, ap₂, ◌∙◌, subst}
 use mathlib.Core.List.{List}
 use lib.ListN.{length}
 use native.Mathlib.Omega.{arith}
+use Rattle.std.specs.Prelude.{Result, Ok, Err}
+use Rattle.refusals.specs.declared.Refusal.{Refusal}
 use Rattle.codes.specs.Codes.{AllBytes}
 use Rattle.place.specs.declared.Place.{Place as Held}
 use Rattle.place.specs.Places.{Dir, Place}
@@ -18,9 +20,8 @@ use Rattle.moves.specs.Stores.{number, Answer, ok, no, Store}
 use Rattle.moves.specs.Step.{start}
 use Rattle.moves.specs.Runs.{stop_number}
 use Rattle.moves.specs.Runs as runs
-use Rattle.machine.specs.declared.Told.{Told}
 use Rattle.machine.specs.Answers.{Before, program, size, place, Ready, StepSays, refused, stopped, arrived, RunSays, ran, StartSays, started}
-use Rattle.machine.proofs.Giving.{gives_one}
+use Rattle.machine.proofs.Giving.{Told, refusal_one, gives_one}
 
 pub no_way : {X : Type 0} → ⊥ → X
 no_way h = absurd h
@@ -91,9 +92,8 @@ module _ {f : List ℕ} (B : AllBytes f) where
           let z : ◌≡◌ {A = Answer (Place × Store)} (ok (p, τ)) (ok (p', τ')) = same_move R R' m m' in let y : ◌≡◌ {A = Place × Store} (p, τ) (p', τ') = cc in
           (gives_one e₁ e₁' refl refl, e₂ ∙ (ap (λ (s : Place × Store). held s.0) y ∙ sym e₂'), e₃ ∙ (ap (λ (s : Place × Store). s.1) y ∙ sym e₃'))
 
-  pub start_one : {d : Dir} {a a' : Told} {x x' : Held} → StartSays f d a x → StartSays f d a' x' → (a ≡ a') × (x ≡ x')
-  start_one (refused s e₁ e₂) (refused s' e₁' e₂') =
-      let z = faults_one s s' in (gives_one e₁ e₁' z.0 z.1, e₂ ∙ sym e₂')
-  start_one (refused s e₁ e₂) (started A e₁' e₂') = no_way (not_both A s)
-  start_one (started A e₁ e₂) (refused s e₁' e₂') = no_way (not_both A s)
-  start_one {d} (started {t} A e₁ e₂) (started {t = t'} A' e₁' e₂') = (gives_one e₁ e₁' refl refl, e₂ ∙ (ap (λ t. held (start t d)) (accepts_unique f B t t' A A') ∙ sym e₂'))
+  pub start_one : {d : Dir} {r r' : Result Held Refusal} → StartSays f d r → StartSays f d r' → r ≡ r'
+  start_one (refused {e} s h) (refused {e = e'} s' h') = let z = faults_one s s' in h ∙ (ap Err (refusal_one e e' z.0 z.1) ∙ sym h')
+  start_one (refused s h) (started A h') = no_way (not_both A s)
+  start_one (started A h) (refused s h') = no_way (not_both A s)
+  start_one {d} (started {t} A h) (started {t = t'} A' h') = h ∙ (ap (λ t. Ok (held (start t d))) (accepts_unique f B t t' A A') ∙ sym h')

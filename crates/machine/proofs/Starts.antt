@@ -5,6 +5,7 @@ use mathlib.Core.Bool.{Bool, true, false}
 use mathlib.Core.List.{List, [], ◌++◌, map}
 use lib.ListN.{length}
 use native.Mathlib.Omega.{arith}
+use Rattle.std.specs.Prelude.{Ok}
 use Rattle.place.specs.declared.Place.{Place as Held}
 use Rattle.place.specs.Places.{Dir, opp, Frame, frame_kind, frame_label}
 use Rattle.place.specs.Slots.{dir_number, slots, held}
@@ -12,9 +13,8 @@ use Rattle.place.specs.Methods.{blank_of, moved_of}
 use Rattle.place.proofs.Laws.{blank_held}
 use Rattle.order.specs.Trees.{Tree}
 use Rattle.program.specs.Says.{given, Accepts, Says}
-use Rattle.program.specs.declared.Checked.{Checked}
-use Rattle.program.specs.declared.Checked.TheVariants.{Accepted, Refused as RefusedFile}
-use Rattle.program.proofs.CheckSays.{accepted_of, refused_of_lem, fault_some}
+use Rattle.program.specs.declared.Counts.{Counts}
+use Rattle.program.proofs.CheckSays.{accepted_tree}
 use Rattle.moves.specs.Step.{start}
 use Rattle.moves.proofs.Linked.{Prog, side, gate_l}
 use Rattle.moves.proofs.Cuts.{gap, leave, in_main}
@@ -25,14 +25,11 @@ use Rattle.moves.proofs.View.{stack, view, enter_is}
 use Rattle.moves.proofs.Accepted.{accepted_wf}
 use Rattle.table.specs.Table.{table_of}
 use Rattle.table.proofs.Tabled.{tabled}
-use Rattle.machine.specs.declared.Told.TheVariants.{Refused}
-use Rattle.machine.specs.declared.Started.{Started}
 use Rattle.ways.specs.Looks.{gate_of, along_of}
-use Rattle.machine.specs.Whole.{number_of, start_of}
-use Rattle.machine.specs.Answers.{numbered, direction, StartSays, refused, started}
+use Rattle.machine.specs.Whole.{number_in, start_of}
+use Rattle.machine.specs.Answers.{direction, StartSays, started}
 use Rattle.machine.proofs.Labels.{along_is}
 use Rattle.machine.proofs.Calls.{gate_is, gate_side, gate_encl}
-use Rattle.machine.proofs.Giving.{gives_done}
 
 module _ (f : List ℕ) (t : Tree) (A : Accepts f t) (d : Dir) where
   abbrev P : Prog
@@ -59,17 +56,12 @@ module _ (f : List ℕ) (t : Tree) (A : Accepts f t) (d : Dir) where
       } in
       z ∙ ap held (sym (enter_is t w 0 d k [] F))
 
-number_is : (up : Bool) → number_of up ≡ dir_number (direction up)
+number_is : (up : Bool) → number_in up ≡ dir_number (direction up)
 number_is true = refl
 number_is false = refl
 
-module _ (f : List ℕ) (a : Checked) (s : Says f (given a)) (up : Bool) where
-  pub started_says : (records p c : ℕ) → a ≡ Accepted records p c → (r : Started) → r ≡ start_of f up → StartSays f (direction up) r.told r.place
-  started_says records p c e r h =
-      let T = accepted_of f a records p c s e in
-      started T.accepts (gives_done (ap (λ (r : Started). r.told) h))
-      (ap (λ (r : Started). r.place) h
-      ∙ (ap (λ n. moved_of blank_of n (gate_of (table_of f) 0 n) (along_of (table_of f) n (gate_of (table_of f) 0 n))) (number_is up) ∙ start_held f T.tree T.accepts (direction up)))
-
-  pub refused_start : (m k : ℕ) → a ≡ RefusedFile m k → (q : Held) → q ≡ blank_of → StartSays f (direction up) (Refused m k) q
-  refused_start m k e q h = let x = refused_of_lem f a m k s e in refused x (numbered (fault_some f x)) h
+pub started_says : (f : List ℕ) (up : Bool) (c : Counts) → Says f (given (Ok c)) → (q : Held) → q ≡ start_of f up → StartSays f (direction up) (Ok q)
+started_says f up c s q h =
+    let T = (accepted_tree f c.records c.procedures c.cells).0 s in
+    started T.accepts
+    (ap Ok (h ∙ (ap (λ n. moved_of blank_of n (gate_of (table_of f) 0 n) (along_of (table_of f) n (gate_of (table_of f) 0 n))) (number_is up) ∙ start_held f T.tree T.accepts (direction up))))

@@ -8,18 +8,18 @@ use lib.Dec.{eqb}
 use native.Mathlib.Omega.{arith}
 use borrow.Author.Tests.{eq-eqb, ne_eqb, lt-ltb, le-ltb}
 use Rattle.place.specs.declared.Place.{Place as Held}
-use Rattle.place.specs.declared.Top.{Top}
 use Rattle.place.specs.Places.{Dir, down, up, opp, Frame, frame_kind, frame_label, Place}
 use Rattle.place.specs.Slots.{dir_number, slots, held}
 use Rattle.place.specs.Methods.{top_at}
-use Rattle.place.proofs.Laws.{top_held, top_held_none}
+use Rattle.place.proofs.Cases.{top_none}
+use Rattle.place.proofs.Laws.{top_of_slots}
 use Rattle.records.specs.Records.{call, uncall, kind}
 use Rattle.order.specs.Trees.{Tree, records_of}
 use Rattle.program.specs.Says.{Accepts}
 use Rattle.records.specs.Faults.{word}
 use Rattle.records.specs.Reading.{record_as}
 use Rattle.moves.specs.Places.{calls, Fits}
-use Rattle.moves.specs.Stores.{Reason, at_end, wrong_value, zero_divisor, bad_index, too_deep, number, Answer, ok, no, Store}
+use Rattle.moves.specs.Stores.{number, Answer, ok, no, Store}
 use Rattle.moves.specs.Step.{step}
 use Rattle.moves.specs.Runs.{Ran, stop_number, onward, run_by, run}
 use Rattle.moves.proofs.Linked.{Rec, name_l, begin_l, end_l, set_l, skip_l, if_l, else_l, fi_l, from_l, loop_l, until_l, call_l, uncall_l, Prog, side}
@@ -44,6 +44,7 @@ use Rattle.machine.proofs.Labels.{small, inside, offset_is}
 use Rattle.machine.proofs.Landing.{top_kind, top_label, spot_at, Fate}
 use Rattle.machine.proofs.There.{tip_there, label_there}
 use Rattle.machine.proofs.Sets.{Stands, Agrees}
+use Rattle.machine.proofs.Giving.{reason_some}
 use Rattle.machine.proofs.Decided.{w, fate_of, kind_at_lem, record_is}
 use Rattle.machine.proofs.Fates.{skip_fate, set_fate, if_down, if_up, else_down, else_up, fi_down, fi_up, from_down, from_up, loop_down, loop_up, until_down, until_up}
 use Rattle.machine.proofs.Calls.{other_is, call_there, uncall_there, enter_fate, return_fate}
@@ -159,12 +160,12 @@ module _ {f : List ℕ} {t : Tree} (A : Accepts f t) {tab : List ℕ} (T : Table
 
   -- what the code sees of the frames
   top_kind_lem : (fs : List Frame) → length fs ≤ 1104 → top_at (slots (map frame_kind fs)) (length fs) 9 ≡ top_kind fs
-  top_kind_lem [] h = ap (λ (x : Top). x.kind) (top_held_none nowhere)
-  top_kind_lem (i ∷ F) h = ap (λ (x : Top). x.kind) (top_held nowhere i F (omega arith))
+  top_kind_lem [] h = sym (top_none (slots []) 0 9 refl)
+  top_kind_lem (i ∷ F) h = top_of_slots nowhere i F (omega arith) frame_kind 9
 
   top_label_lem : (fs : List Frame) → length fs ≤ 1104 → top_at (slots (map frame_label fs)) (length fs) 0 ≡ top_label fs
-  top_label_lem [] h = ap (λ (x : Top). x.label) (top_held_none nowhere)
-  top_label_lem (i ∷ F) h = ap (λ (x : Top). x.label) (top_held nowhere i F (omega arith))
+  top_label_lem [] h = sym (top_none (slots []) 0 0 refl)
+  top_label_lem (i ∷ F) h = top_of_slots nowhere i F (omega arith) frame_label 0
 
   pub decided : (p : Place) → Fits t p → (σ : Store) → Follows (held p) σ (rule_of bytes tab arr (spot_of (held p) (calls p.frames)) σ) (step t p σ)
   decided p fit σ =
@@ -178,13 +179,6 @@ module _ {f : List ℕ} {t : Tree} (A : Accepts f t) {tab : List ℕ} (T : Table
           (follows s σ _ (cstep t P s σ) (cut_fate s F σ))
 
   -- ---- a run, by the map
-  number_some : (r : Reason) → number r ≡ 0 → ⊥
-  number_some at_end e = omega arith
-  number_some wrong_value e = omega arith
-  number_some zero_divisor e = omega arith
-  number_some bad_index e = omega arith
-  number_some too_deep e = omega arith
-
   abbrev Ends : Gone → ℕ → Ran → Type 0
   Ends x k r = x ≡ gone (stop_number r.stop) (k + r.steps) (held r.place) r.store
 
@@ -235,7 +229,7 @@ module _ {f : List ℕ} {t : Tree} (A : Accepts f t) {tab : List ℕ} (T : Table
             → Ends (cond (eqb x.move.reason 0) (go_of rule n (stand_of (after_of (held p) x.move)) x.move.calls x.store (k + 1)) (gone x.move.reason k (held_by (stand_of (held p))) x.store)) k (onward a (λ p σ. run_by (step t) n p σ) p σ)
         go (no r) e x h ih =
             let z : k ≡ k + 0 = omega arith in
-            ap (λ (b : Bool). cond b (go_of rule n (stand_of (after_of (held p) x.move)) x.move.calls x.store (k + 1)) (gone x.move.reason k (held_by (stand_of (held p))) x.store)) (ne_eqb x.move.reason 0 (λ y. number_some r (sym h.0 ∙ y)))
+            ap (λ (b : Bool). cond b (go_of rule n (stand_of (after_of (held p) x.move)) x.move.calls x.store (k + 1)) (gone x.move.reason k (held_by (stand_of (held p))) x.store)) (ne_eqb x.move.reason 0 (λ y. omega (arith, reason_some r, h.0, y)))
             ∙ (λ i. gone (h.0 i) (z i) (held_back p fit i) (h.1 i))
         go (ok s) e x h ih =
             let r = run t n s.0 s.1 in

@@ -11,6 +11,9 @@ use mathlib.Core.Bool.{cond}
 use lib.ListN.{length, get_or}
 use lib.Dec.{eqb}
 use lib.IntN.{pos}
+use native.Mathlib.Omega.{arith}
+use Rattle.std.specs.Prelude.{Result, Ok, Err}
+use Rattle.refusals.specs.declared.Refusal.{Refusal}
 use mir.Syntax.{w32}
 use mir.Val.{SFits}
 use Rattle.codes.specs.Codes.{AllBytes}
@@ -19,7 +22,6 @@ use Rattle.place.specs.Places.{Dir, Place, turn}
 use Rattle.place.specs.Slots.{held}
 use Rattle.order.specs.Trees.{Tree, cells}
 use Rattle.program.specs.Says.{Accepts}
-use Rattle.program.proofs.CheckSays.{fault_some}
 use Rattle.moves.specs.Places.{Fits}
 use Rattle.moves.specs.Stores.{Reason, at_end, wrong_value, zero_divisor, bad_index, too_deep, number, Answer, ok, no, Store, Sized}
 use Rattle.moves.specs.Step.{step, step_back, start}
@@ -29,9 +31,8 @@ use Rattle.moves.specs.Runs as runs
 use Rattle.moves.proofs.Runs.{Steps, none, then, IsRun, all, fewer}
 use Rattle.moves.proofs.Runs as moving
 use Rattle.moves.proofs.Theorems as theorems
-use Rattle.machine.specs.declared.Told.{Told}
-use Rattle.machine.specs.Answers.{Gives, done, numbered, Before, Ready, StepSays, refused, stopped, arrived, RunSays, ran, StartSays, started}
-use Rattle.machine.proofs.Giving.{gives_refused, numbers_one, not_none, reason_some}
+use Rattle.machine.specs.Answers.{Gives, done, Before, Ready, StepSays, refused, stopped, arrived, RunSays, ran, StartSays, started}
+use Rattle.machine.proofs.Giving.{Told, by_gives, numbers_one, not_none, reason_some}
 use Rattle.machine.proofs.OneAnswer.{no_way, before_ready, ready_one, step_one}
 
 -- ---- the number tells the reason
@@ -57,7 +58,7 @@ Move = Tree → Place → Store → Answer (Place × Store)
 -- ---- a step's number
 module _ {f : List ℕ} (B : AllBytes f) {q : Held} {σ : Store} {t : Tree} {p : Place} (R : Ready f q σ t p) where
   answers : (move : Move) {a : Told} {q' : Held} {σ' : Store} → StepSays move f q σ a q' σ' → (r : Reason) → Gives a (number r) 0 ↔ move t p σ ≡ no r
-  answers move {a} {q'} {σ'} s r = (λ e. there s e, λ e. gives_refused (reason_some r) (step_one B move s (stopped R e (numbered (reason_some r)) refl refl)).0)
+  answers move {a} {q'} {σ'} s r = (λ e. there s e, λ e. subst (λ (a : Told). Gives a (number r) 0) (sym (step_one B move s (stopped R e (by_gives (because r)) refl refl)).0) (by_gives (because r)))
     where
       there : StepSays move f q σ a q' σ' → Gives a (number r) 0 → move t p σ ≡ no r
       there (refused b e₁ e₂ e₃) e = no_way (before_ready B b R)
@@ -125,11 +126,14 @@ module _ {f : List ℕ} (B : AllBytes f) {t : Tree} where
 
 -- "So from a start, however one walks, going back is refused only at the start itself."
 module _ {f : List ℕ} (B : AllBytes f) {d : Dir} {q₀ : Held} {σ₀ : Store} (range : Range σ₀) (size : (t : Tree) → Accepts f t → length σ₀ ≡ cells t) where
-  pub walk_refused : {q q' : Held} {σ σ' : Store} {a₀ a : Told} {n k : ℕ} → StartSays f d a₀ q₀ → Gives a₀ 0 0 → Walked f q₀ σ₀ q σ → StepSays step_back f q σ a q' σ' → Gives a n k → 0 < n
+  pub walk_refused : {q q' : Held} {σ σ' : Store} {a : Told} {n k : ℕ} → StartSays f d (Ok q₀) → Walked f q₀ σ₀ q σ → StepSays step_back f q σ a q' σ' → Gives a n k → 0 < n
       → (q ≡ q₀) × (σ ≡ σ₀) × (n ≡ 30) × (k ≡ 0)
-  walk_refused (refused s e₁ e₂) g₀ w b g h = not_none (fault_some f s) e₁ g₀
-  walk_refused {q} {q'} {σ} {σ'} {a₀} {a} {n} {k} (started {t} A e₁ e₂) g₀ w b g h = go' b
+  walk_refused (refused {e = r} s e) w b g h = let z : ◌≡◌ {A = Result Held Refusal} (Ok q₀) (Err r) = e in let y : ◌≡◌ {A = ℕ} 0 1 = cc in no_way (omega arith)
+  walk_refused {q} {q'} {σ} {σ'} {a} {n} {k} (started {t} A e) w b g h = go' b
     where
+      e₂ : q₀ ≡ held (start t d)
+      e₂ = let z : ◌≡◌ {A = Result Held Refusal} (Ok q₀) (Ok (held (start t d))) = e in cc
+
       so : Sized t σ₀
       so = record { size = size t A; range = range }
 

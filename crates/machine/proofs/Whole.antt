@@ -1,13 +1,16 @@
 -- What the public functions compute is what Answers says, for every file, struct and store.
-use Prim.Native.Nat.{ℕ, zero, suc, ◌≤◌}
+use Prim.Native.Nat.{ℕ, zero, suc, ◌+◌, ◌≤◌}
 use mathlib.Core.Path.{◌≡◌, refl, sym, ap, ◌∙◌, subst}
-use mathlib.Core.Bool.{cond}
-use lib.Dec.{eqb}
-use mathlib.Core.List.{List, [], ◌∷◌, ◌++◌, map, reverse, reverse-cons, append_assoc}
-use lib.ListN.{length, get_or, length-map, length-reverse}
-use lib.Seq.{get_or_at}
+use mathlib.Core.Bool.{Bool, true, false, cond}
+use mathlib.Core.List.{List, [], ◌∷◌, map, reverse, reverse-cons}
+use lib.ListN.{length, length-map, length-reverse}
+use lib.IntN.{pos}
 use native.Mathlib.Omega.{arith}
-use borrow.Author.Tests.{le-leb}
+use Rattle.std.proofs.lemmas.List.{take_at}
+use Rattle.std.proofs.lemmas.List.Sums.{sum_by-append}
+use Rattle.std.specs.Prelude.{◌==◌, count_by, Ok, Err}
+use Rattle.refusals.specs.declared.Refusal.{Refusal}
+use Rattle.program.specs.declared.Counts.{Counts}
 use Rattle.place.specs.declared.Place.{Place as Held}
 use Rattle.place.specs.Places.{Frame, frame_kind, Place, turn}
 use Rattle.place.specs.Slots.{held}
@@ -16,9 +19,7 @@ use Rattle.place.proofs.Laws.{turned_held, turned_twice}
 use Rattle.order.specs.Trees.{Tree, records_of, cells}
 use Rattle.program.specs.Says.{given, Accepts, Says}
 use Rattle.program.specs.Arrays.{arrays_at}
-use Rattle.program.specs.declared.Checked.{Checked}
-use Rattle.program.specs.declared.Checked.TheVariants.{Accepted, Refused as RefusedFile}
-use Rattle.program.proofs.CheckSays.{accepted_of, refused_of_lem, fault_some}
+use Rattle.program.proofs.CheckSays.{accepted_tree}
 use Rattle.moves.specs.Places.{calls, Fits}
 use Rattle.moves.specs.Stores.{Answer, ok, no, bind, Store}
 use Rattle.moves.specs.Step.{step, step_back}
@@ -31,34 +32,32 @@ use Rattle.moves.proofs.Undo.{turn_turn, turn_fits}
 use Rattle.table.specs.Table.{table_of}
 use Rattle.table.proofs.Tabled.{tabled}
 use Rattle.fits.proofs.FitsLaw.{fits_law}
-use Rattle.machine.specs.declared.Told.{Told}
 use Rattle.machine.specs.declared.Ran.{Ran}
 use Rattle.decide.specs.Ways.{rule_in}
-use Rattle.machine.specs.Walk.{calls_in, calls_of, stand_of, Gone, gone, go_of}
-use Rattle.machine.specs.Copies.{pad_to, widen_to}
-use Rattle.machine.specs.declared.walk.Went.{Went}
-use Rattle.machine.specs.Whole.{told_by, staying, given_back, Copied, CheckedRun}
+use Rattle.machine.specs.Walk.{calls_of, stand_of, Gone, gone, go_of}
+use Rattle.machine.specs.Copies.{filled}
+use Rattle.machine.specs.Whole.{staying, given_back, Copied, CheckedRun}
 use Rattle.machine.specs.Whole as whole
 use Rattle.machine.specs.Answers.{Gives, Before, program, size, place, Ready, StepSays, refused, stopped, arrived, RunSays, ran}
 use Rattle.fits.proofs.Few.{room}
-use Rattle.machine.proofs.Giving.{gives_refused, by_gives}
+use Rattle.machine.proofs.Giving.{Told, gives_refused, by_gives}
 use Rattle.machine.proofs.Copied.{walked_copied}
 
 -- ---- the calls among the frames
-calls_are : (fs : List Frame) (r : List ℕ) → calls_in (reverse (map frame_kind fs) ++ r) (length fs) ≡ calls fs
-unfolding calls_in
-calls_are [] r = refl
-calls_are (i ∷ F) r =
-    let R = reverse (map frame_kind F) in
-    let s = R ++ (frame_kind i ∷ r) in
-    let e : reverse (map frame_kind (i ∷ F)) ++ r ≡ s = rw (reverse-cons (frame_kind i) (map frame_kind F), append_assoc R) in
-    let g : get_or s (length F) 0 ≡ frame_kind i = get_or_at R (frame_kind i) r 0 (length F) (length-reverse (map frame_kind F) ∙ length-map F frame_kind) in
-    ap (λ (s : List ℕ). calls_in s (suc (length F))) e
-    ∙ (ap (λ (k : ℕ). cond (eqb k 4) (suc (calls_in s (length F))) (calls_in s (length F))) g
-    ∙ ap (λ (n : ℕ). cond (eqb (frame_kind i) 4) (suc n) n) (calls_are F (frame_kind i ∷ r)))
+calls_are : (fs : List Frame) → count_by (λ k. k == 4) (reverse (map frame_kind fs)) ≡ calls fs
+calls_are [] = refl
+calls_are (i ∷ F) =
+    rw (reverse-cons (frame_kind i) (map frame_kind F), sum_by-append (λ k. cond (k == 4) 1 0) (reverse (map frame_kind F)) (frame_kind i ∷ []), calls_are F) (one (frame_kind i == 4) (calls F))
+  where
+    one : (b : Bool) (n : ℕ) → n + (0 + cond b 1 0) ≡ cond b (suc n) n
+    one true n = omega arith
+    one false n = omega arith
 
-calls_held : (p : Place) → length p.frames ≤ 1104 → calls_of (held p).kinds (held p).count ≡ calls p.frames
-calls_held p h = rw (le-leb (length p.frames) 1104 h) (calls_are p.frames _)
+calls_held : (p : Place) → length p.frames ≤ 1104 → calls_of (held p) ≡ calls p.frames
+calls_held p h =
+    let R = reverse (map frame_kind p.frames) in
+    let e : length R ≡ length p.frames = length-reverse (map frame_kind p.frames) ∙ length-map p.frames frame_kind in
+    ap (count_by (λ k. k == 4)) (take_at R _ (length p.frames) e) ∙ calls_are p.frames
 
 -- ---- a run forward
 module _ (f : List ℕ) (q : Held) (σ : Store) (n : ℕ) where
@@ -67,47 +66,44 @@ module _ (f : List ℕ) (q : Held) (σ : Store) (n : ℕ) where
 
   module _ (t : Tree) (A : Accepts f t) where
     -- the calls are counted in the struct
-    calls_of_lem : (p : Place) → q ≡ held p → Fits t p → calls_of q.kinds q.count ≡ calls p.frames
+    calls_of_lem : (p : Place) → q ≡ held p → Fits t p → calls_of q ≡ calls p.frames
     calls_of_lem p h fit =
         let k = fits_placed t (accepted_wf A) p fit in
         let room_p : length p.frames ≤ 1104 = subst (λ p. length p.frames ≤ 1104) (sym k.is) (room A k.cut k.sits) in
-        (λ i. calls_of (h i).kinds (h i).count) ∙ calls_held p room_p
+        ap calls_of h ∙ calls_held p room_p
 
     -- what a run on the copies says
-    fitting : length σ ≡ cells t → (p : Place) → q ≡ held p → Fits t p → (w : Went) (τ : Store) → Copied f (table_of f) (length (records_of t)) q σ n w τ
-        → RunSays run f q σ n (told_by w.reason) w.steps w.place τ
-    fitting e p h fit w τ c =
-        let bytes = pad_to 32784 f in
-        let g = (λ i. given_back σ (go_of (rule_in bytes c.map (arrays_at f)) n (stand_of (h i)) (calls_of_lem p h fit i) (widen_to 2048 σ) 0)) ∙ walked_copied A c.maps p fit σ e n in
-        let k : w ≡ (gone (stop_number (run t n p σ).stop) (run t n p σ).steps (held (run t n p σ).place) (run t n p σ).store).went = c.goes.went ∙ ap (λ (x : Gone). x.went) g in
+    fitting : length σ ≡ cells t → (p : Place) → q ≡ held p → Fits t p → (r : Ran) (τ : Store) → Copied f (table_of f) (length (records_of t)) q σ n r τ → Says-run r τ
+    fitting e p h fit r τ c =
+        let bytes = filled 32784 f 0 in
+        let g = (λ i. given_back σ (go_of (rule_in bytes c.map (arrays_at f)) n (stand_of (h i)) (calls_of_lem p h fit i) (filled 2048 σ (pos 0)) 0)) ∙ walked_copied A c.maps p fit σ e n in
+        let k : r ≡ (gone (stop_number (run t n p σ).stop) (run t n p σ).steps (held (run t n p σ).place) (run t n p σ).store).ran = c.goes.ran ∙ ap (λ (x : Gone). x.ran) g in
         ran (record { accepts = A; sized = e; holds = h; fits = fit })
-        (by_gives (ap (λ (x : Went). x.reason) k))
-        (ap (λ (x : Went). x.steps) k)
-        (ap (λ (x : Went). x.place) k)
+        (subst (λ (a : Told). Gives a (stop_number (run t n p σ).stop) 0) (sym (ap (λ (r : Ran). r.told) k)) (by_gives (run t n p σ).stop))
+        (ap (λ (r : Ran). r.steps) k)
+        (ap (λ (r : Ran). r.place) k)
         (c.goes.left ∙ ap (λ (x : Gone). x.store) g)
 
-    checked_is : (records c : ℕ) → records ≡ length (records_of t) → c ≡ cells t → (r : Ran) (τ : Store) → CheckedRun f records c q σ n r τ → Says-run r τ
-    checked_is records c er ec r τ (whole.size h e k) =
-        refused (size A (λ x. h (x ∙ sym ec))) (gives_refused (omega arith) (ap (λ (r : Ran). r.told) e)) (ap (λ (r : Ran). r.steps) e) (ap (λ (r : Ran). r.place) e) k
-    checked_is records c er ec r τ (whole.place h b e k) =
-        refused (place A (h ∙ ec) (λ p x y. unfit p x y)) (gives_refused (omega arith) (ap (λ (r : Ran). r.told) e)) (ap (λ (r : Ran). r.steps) e) (ap (λ (r : Ran). r.place) e) k
+    checked_is : (c : Counts) → c.records ≡ length (records_of t) → c.cells ≡ cells t → (r : Ran) (τ : Store) → CheckedRun f c q σ n r τ → Says-run r τ
+    checked_is c er ec r τ (whole.size h e k) =
+        refused (size A (λ x. h (x ∙ sym ec))) (gives_refused (ap (λ (r : Ran). r.told) e)) (ap (λ (r : Ran). r.steps) e) (ap (λ (r : Ran). r.place) e) k
+    checked_is c er ec r τ (whole.place h b e k) =
+        refused (place A (h ∙ ec) (λ p x y. unfit p x y)) (gives_refused (ap (λ (r : Ran). r.told) e)) (ap (λ (r : Ran). r.steps) e) (ap (λ (r : Ran). r.place) e) k
       where
         unfit : (p : Place) → q ≡ held p → Fits t p → ⊥
-        unfit p x y = (rw b at (fits_law f t (table_of f) records q A (tabled f t A) er)) (p, (x, y))
-    checked_is records c er ec r τ (whole.went {w} h b g e) =
-        let D = rw b at (fits_law f t (table_of f) records q A (tabled f t A) er) in
-        subst (λ (r : Ran). Says-run r τ) (sym e) (fitting (h ∙ ec) D.0 D.1.0 D.1.1 w τ (subst (λ (m : ℕ). Copied f (table_of f) m q σ n w τ) er g))
+        unfit p x y = (rw b at (fits_law f t (table_of f) c.records q A (tabled f t A) er)) (p, (x, y))
+    checked_is c er ec r τ (whole.went h b g) =
+        let D = rw b at (fits_law f t (table_of f) c.records q A (tabled f t A) er) in
+        fitting (h ∙ ec) D.0 D.1.0 D.1.1 r τ (subst (λ (m : ℕ). Copied f (table_of f) m q σ n r τ) er g)
 
-  -- an accepted file, as the check answers it
-  pub checked_says : (a : Checked) → Says f (given a) → (records p c : ℕ) → a ≡ Accepted records p c → (r : Ran) (τ : Store) → CheckedRun f records c q σ n r τ → Says-run r τ
-  checked_says a s records p c e r τ h =
-      let T = accepted_of f a records p c s e in
-      checked_is T.tree T.accepts records c T.records_are T.cells_are' r τ h
+  -- a file that the check accepts, and one that it refuses
+  pub checked_says : (c : Counts) → Says f (given (Ok c)) → (r : Ran) (τ : Store) → CheckedRun f c q σ n r τ → Says-run r τ
+  checked_says c s r τ h =
+      let T = (accepted_tree f c.records c.procedures c.cells).0 s in
+      checked_is T.tree T.accepts c T.records_are T.cells_are' r τ h
 
-  pub refused_says : (a : Checked) → Says f (given a) → (m k : ℕ) → a ≡ RefusedFile m k → (r : Ran) → r ≡ staying m k q → Says-run r σ
-  refused_says a s m k e r h =
-      let x = refused_of_lem f a m k s e in
-      refused (program x) (gives_refused (fault_some f x) (ap (λ (r : Ran). r.told) h)) (ap (λ (r : Ran). r.steps) h) (ap (λ (r : Ran). r.place) h) refl
+  pub refused_says : (e : Refusal) → Says f (given (Err e)) → (r : Ran) → r ≡ staying e q → Says-run r σ
+  refused_says e s r h = refused (program s) (gives_refused (ap (λ (r : Ran). r.told) h)) (ap (λ (r : Ran). r.steps) h) (ap (λ (r : Ran). r.place) h) refl
 
 -- ---- a run of one is a step
 module _ (move : Tree → Place → Store → Answer (Place × Store)) (f : List ℕ) (q : Held) (σ : Store) where

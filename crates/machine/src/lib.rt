@@ -5,57 +5,37 @@ ghost use Rattle.std.specs.Prelude.{◌≡◌, ◌≤◌};
 ghost use Rattle.moves.specs.Step.{step as forward, step_back};
 ghost use Rattle.moves.specs.Runs.{run as running, run_back};
 ghost use Rattle.machine.specs.Answers.{StepSays, RunSays, StartSays, direction};
-ghost use Rattle.machine.specs.Whole.{told_by, staying, Copied, CheckedRun, number_of, start_of};
+ghost use Rattle.machine.specs.Whole.{staying, Copied, CheckedRun, start_of};
 
 use place::Place;
-use program::Checked;
-use walk::Went;
+use program::Counts;
+use refusals::{Reason, Refusal};
 
 mod copies;
 mod walk;
 
-// Whether it was done; else the document's number, and the record (0 where there is none).
-#[derive(Clone, Copy)]
-pub enum Told {
-    Done,
-    Refused(u8, usize),
-}
-
-#[derive(Drop)]
-pub struct Started {
-    pub told: Told,
-    pub place: Place,
-}
-
+// A step's answer; a refused one has the place given.
 #[derive(Drop)]
 pub struct Stepped {
-    pub told: Told,
+    pub told: Result<(), Refusal>,
     pub place: Place,
 }
 
+// A run's answer: whether all steps were made, how many were, and the last place.
 #[derive(Drop)]
 pub struct Ran {
-    pub told: Told,
+    pub told: Result<(), Refusal>,
     pub steps: u32,
     pub place: Place,
 }
 
-// A run's reason, 0 where all steps were made.
-fn answer(reason: u8) -> Told
-    ensures { result ≡ told_by reason }
-{
-    if reason == 0 {
-        return Told::Done;
-    }
-    Told::Refused(reason, 0)
-}
-
-// Refused before the first step.
-fn stays(number: u8, label: usize, place: Place) -> Ran
-    ensures { result ≡ staying number label place }
+// Refused before the first step. (Inline it would put more places into the frame of `checked`.)
+#[inline(never)]
+fn stays(refusal: Refusal, place: Place) -> Ran
+    ensures { result ≡ staying refusal place }
 {
     Ran {
-        told: Told::Refused(number, label),
+        told: Err(refusal),
         steps: 0,
         place,
     }
@@ -70,55 +50,43 @@ fn went(
     place: Place,
     store: &mut [i32],
     n: u32,
-) -> Went
+) -> Ran
     requires { place.count ≤ 1104 }
     ensures { Copied file.now table.now records place store.old n result store.new }
 {
     let bytes = copies::padded(file);
     let arrays = program::arrays::arrays(file);
     let map = ways::map::map(&bytes, table, records);
-    let calls = walk::calls(&place.kinds, place.count);
+    let calls = walk::calls(&place.kinds[..place.count]);
     let mut cells = copies::widened(store);
-    let went = walk::go(&bytes, &map, &arrays, &mut cells, place, calls, n);
+    let ran = walk::go(&bytes, &map, &arrays, &mut cells, place, calls, n);
     copies::restored(&cells, store);
-    went
+    ran
 }
 
 // A run of a program that is accepted: 20, 21, then the steps.
 #[inline(never)]
-fn checked(
-    file: &[u8],
-    records: usize,
-    cells: usize,
-    place: Place,
-    store: &mut [i32],
-    n: u32,
-) -> Ran
-    ensures { CheckedRun file.now records cells place store.old n result store.new }
+fn checked(file: &[u8], counts: Counts, place: Place, store: &mut [i32], n: u32) -> Ran
+    ensures { CheckedRun file.now counts place store.old n result store.new }
 {
-    if store.len() != cells {
-        return stays(20, 0, place);
+    if store.len() != counts.cells {
+        return stays(Refusal::at(Reason::WrongSize, 0), place);
     }
     let table = table::table(file);
-    if !fits::fits(file, &table, records, place) {
-        return stays(21, 0, place);
+    if !fits::fits(file, &table, counts.records, place) {
+        return stays(Refusal::at(Reason::Unfit, 0), place);
     }
-    let w = went(file, &table, records, place, store, n);
-    let last = w.place;
-    Ran {
-        told: answer(w.reason),
-        steps: w.steps,
-        place: last,
-    }
+    went(file, &table, counts.records, place, store, n)
 }
 
 // A run of at most n steps forward.
+#[inline(never)]
 pub fn run(file: &[u8], place: Place, store: &mut [i32], n: u32) -> Ran
     ensures { RunSays running file.now place store.old n result.told result.steps result.place store.new }
 {
     match program::check(file) {
-        Checked::Refused(number, k) => stays(number, k, place),
-        Checked::Accepted(records, _, cells) => checked(file, records, cells, place, store, n),
+        Err(refusal) => stays(refusal, place),
+        Ok(counts) => checked(file, counts, place, store, n),
     }
 }
 
@@ -126,13 +94,10 @@ pub fn run(file: &[u8], place: Place, store: &mut [i32], n: u32) -> Ran
 pub fn run_back(file: &[u8], place: Place, store: &mut [i32], n: u32) -> Ran
     ensures { RunSays run_back file.now place store.old n result.told result.steps result.place store.new }
 {
-    let r = run(file, place.turned(), store, n);
-    let told = r.told;
-    let last = r.place;
+    let ran = run(file, place.turned(), store, n);
     Ran {
-        told,
-        steps: r.steps,
-        place: last.turned(),
+        place: ran.place.turned(),
+        ..ran
     }
 }
 
@@ -140,56 +105,34 @@ pub fn run_back(file: &[u8], place: Place, store: &mut [i32], n: u32) -> Ran
 pub fn step(file: &[u8], place: Place, store: &mut [i32]) -> Stepped
     ensures { StepSays forward file.now place store.old result.told result.place store.new }
 {
-    let r = run(file, place, store, 1);
-    let told = r.told;
-    let last = r.place;
-    Stepped { told, place: last }
+    let Ran { told, place, .. } = run(file, place, store, 1);
+    Stepped { told, place }
 }
 
 // A step back.
 pub fn back(file: &[u8], place: Place, store: &mut [i32]) -> Stepped
     ensures { StepSays step_back file.now place store.old result.told result.place store.new }
 {
-    let r = run_back(file, place, store, 1);
-    let told = r.told;
-    let last = r.place;
-    Stepped { told, place: last }
-}
-
-fn number(up: bool) -> u8
-    ensures { result ≡ number_of up }
-{
-    if up { 1 } else { 0 }
+    let Ran { told, place, .. } = run_back(file, place, store, 1);
+    Stepped { told, place }
 }
 
 // The start of a program that is accepted.
-fn begun(file: &[u8], up: bool) -> Started
+fn begun(file: &[u8], up: bool) -> Place
     ensures { result ≡ start_of file.now up }
 {
     let table = table::table(file);
-    let d = number(up);
+    let d = u8::from(up);
     let a = ways::gate(&table, 0, d);
     let b = ways::along(&table, d, a);
-    let blank = Place::blank();
-    let place = blank.moved(d, a, b);
-    Started {
-        told: Told::Done,
-        place,
-    }
+    Place::blank().moved(d, a, b)
 }
 
 // Where a program starts, going down or up.
-pub fn start(file: &[u8], up: bool) -> Started
-    ensures { StartSays file.now (direction up) result.told result.place }
+// Stays: (a) the bool: `StartSays` speaks of `direction up`, and its callers have a bool.
+pub fn start(file: &[u8], up: bool) -> Result<Place, Refusal>
+    ensures { StartSays file.now (direction up) result }
 {
-    match program::check(file) {
-        Checked::Refused(number, k) => {
-            let place = Place::blank();
-            Started {
-                told: Told::Refused(number, k),
-                place,
-            }
-        }
-        Checked::Accepted(_, _, _) => begun(file, up),
-    }
+    program::check(file)?;
+    Ok(begun(file, up))
 }

@@ -13,7 +13,9 @@ use mir.Syntax.{w32}
 use mir.Val.{SFits}
 use Rattle.values.proofs.Laws.{undo_sum, undo_difference, undo_exclusive, sum_fits, difference_fits, exclusive_fits}
 use Rattle.expr.specs.Tree.{Expr, Valid, Worth, value, stop, eval, known}
-use Rattle.expr.specs.Agreement.{Name, scalar, array, occurs, There, Same}
+use Rattle.expr.specs.declared.Name.{Name}
+use Rattle.expr.specs.declared.Name.TheVariants.{Scalar, Array}
+use Rattle.expr.specs.Agreement.{occurs, There, Same}
 use Rattle.expr.specs.Answers.{InCell}
 use Rattle.expr.proofs.Agree.{eval_keeps, eval_fits}
 use Rattle.records.specs.Records.{Target, cell, entry, there_target, own_target, sum}
@@ -69,32 +71,32 @@ module _ (τ : Tree) where
 
   -- Cell c is one of the name's.
   abbrev Owns : Name → ℕ → Type 0
-  Owns (scalar x) c = (c ≡ x) × (x < τ.scalars)
-  Owns (array a) c = (a < arrays) × (start a ≤ c) × (c < start a + size a)
+  Owns (Scalar x) c = (c ≡ x) × (x < τ.scalars)
+  Owns (Array a) c = (a < arrays) × (start a ≤ c) × (c < start a + size a)
 
   owned_there : (n : Name) (c : ℕ) → Owns n c → c < cells τ
-  owned_there (scalar x) c (e, h) = omega arith
-  owned_there (array a) c (h, lo, hi) = omega (arith, start_end τ.lengths τ.scalars a h)
+  owned_there (Scalar x) c (e, h) = omega arith
+  owned_there (Array a) c (h, lo, hi) = omega (arith, start_end τ.lengths τ.scalars a h)
 
   -- Different names have no cell in common.
   apart : (m n : Name) (c : ℕ) → Owns m c → Owns n c → (m ≡ n → ⊥) → ⊥
-  apart (scalar x) (scalar y) c (e, h) (e', h') f = f (ap scalar (sym e ∙ e'))
-  apart (scalar x) (array a) c (e, h) (h', lo, hi) f = omega (arith, start_ge τ.lengths τ.scalars a h')
-  apart (array a) (scalar x) c (h', lo, hi) (e, h) f = omega (arith, start_ge τ.lengths τ.scalars a h')
-  apart (array a) (array b) c (h, lo, hi) (h', lo', hi') f = go' (ltb a b) refl (ltb b a) refl
+  apart (Scalar x) (Scalar y) c (e, h) (e', h') f = f (ap Scalar (sym e ∙ e'))
+  apart (Scalar x) (Array a) c (e, h) (h', lo, hi) f = omega (arith, start_ge τ.lengths τ.scalars a h')
+  apart (Array a) (Scalar x) c (h', lo, hi) (e, h) f = omega (arith, start_ge τ.lengths τ.scalars a h')
+  apart (Array a) (Array b) c (h, lo, hi) (h', lo', hi') f = go' (ltb a b) refl (ltb b a) refl
     where
       go' : (x : Bool) → ltb a b ≡ x → (y : Bool) → ltb b a ≡ y → ⊥
       go' true e y k = let l = ltb-true a b e in omega (arith, start_next τ.lengths τ.scalars a b l h')
       go' false e true k = let l = ltb-true b a k in omega (arith, start_next τ.lengths τ.scalars b a l h)
       go' false e false k =
           let p : b ≤ a = ltb-false a b e in let q : a ≤ b = ltb-false b a k in
-          f (ap array (omega arith))
+          f (ap Array (omega arith))
 
   -- A store that is changed at a cell of one name is the same at every other name.
   elsewhere : (n : Name) (c : ℕ) → Owns n c → (σ : Store) (y : ℤ) (m : Name) → There τ.scalars arrays m → (m ≡ n → ⊥) → Same m (layout τ) σ (put σ c y)
-  elsewhere n c o σ y (scalar x) h f = sym (get_or-set_other σ c x y (pos 0) (λ e. apart (scalar x) n c (sym e, h) o f))
-  elsewhere n c o σ y (array a) h f = λ i l. sym (get_or-set_other σ c (start a + i) y (pos 0)
-      (λ e. apart (array a) n c (h, let z : start a ≤ c = omega arith in z, let z : c < start a + size a = omega arith in z) o f))
+  elsewhere n c o σ y (Scalar x) h f = sym (get_or-set_other σ c x y (pos 0) (λ e. apart (Scalar x) n c (sym e, h) o f))
+  elsewhere n c o σ y (Array a) h f = λ i l. sym (get_or-set_other σ c (start a + i) y (pos 0)
+      (λ e. apart (Array a) n c (h, let z : start a ≤ c = omega arith in z, let z : c < start a + size a = omega arith in z) o f))
 
   eval_kept : (n : Name) (c : ℕ) → Owns n c → (σ : Store) (y : ℤ) (e : Expr) → known τ.scalars arrays e ≡ true → occurs n e ≡ false
       → evaluated τ σ e ≡ evaluated τ (put σ c y) e
@@ -111,13 +113,13 @@ module _ (τ : Tree) where
 
   -- ---- the cell that a SET changes
   abbrev name_of : Target → Name
-  name_of (cell x) = scalar x
-  name_of (entry a i) = array a
+  name_of (cell x) = Scalar x
+  name_of (entry a i) = Array a
 
-  entry_owned : (a : ℕ) (v : ℤ) (c : ℕ) → a < arrays → entry_at τ a v ≡ ok c → Owns (array a) c
+  entry_owned : (a : ℕ) (v : ℤ) (c : ℕ) → a < arrays → entry_at τ a v ≡ ok c → Owns (Array a) c
   entry_owned a (pos i) c h q = go' (ltb i (size a)) refl q
     where
-      go' : (b : Bool) → ltb i (size a) ≡ b → cond b (ok (start a + i)) (no bad_index) ≡ ok c → Owns (array a) c
+      go' : (b : Bool) → ltb i (size a) ≡ b → cond b (ok (start a + i)) (no bad_index) ≡ ok c → Owns (Array a) c
       go' true e q =
           let l = ltb-true i (size a) e in
           let z : start a + i ≡ c = cc in
@@ -130,7 +132,7 @@ module _ (τ : Tree) where
   cell_owned σ (cell x) c t q = let z : x ≡ c = cc in (sym z, ltb-true x τ.scalars t)
   cell_owned σ (entry a i) c t q = go' (evaluated τ σ i) q
     where
-      go' : (r : Answer ℤ) → bind r (λ v. entry_at τ a v) ≡ ok c → Owns (array a) c
+      go' : (r : Answer ℤ) → bind r (λ v. entry_at τ a v) ≡ ok c → Owns (Array a) c
       go' (ok v) q = entry_owned a v c (ltb-true a arrays (and_true (ltb a arrays) (known τ.scalars arrays i) t).0) q
       go' (no r) q = ok_no c r (sym q)
 
@@ -147,12 +149,12 @@ module _ (τ : Tree) where
   unfolding cell_of bind occurs
   cell_kept σ y (cell x) e c o t f = refl
   cell_kept σ y (entry a i) e c o t f =
-      ap (λ r. bind r (λ v. entry_at τ a v)) (eval_kept (array a) c o σ y i (and_true (ltb a arrays) (known τ.scalars arrays i) t).1 (either_false (occurs (array a) i) (occurs (array a) e) f).0)
+      ap (λ r. bind r (λ v. entry_at τ a v)) (eval_kept (Array a) c o σ y i (and_true (ltb a arrays) (known τ.scalars arrays i) t).1 (either_false (occurs (Array a) i) (occurs (Array a) e) f).0)
 
   own_right : (x : Target) (e : Expr) → own_target x e ≡ false → occurs (name_of x) e ≡ false
   unfolding occurs
   own_right (cell x) e f = f
-  own_right (entry a i) e f = (either_false (occurs (array a) i) (occurs (array a) e) f).1
+  own_right (entry a i) e f = (either_false (occurs (Array a) i) (occurs (Array a) e) f).1
 
   -- ---- a SET that arrives: its cell, its value, the store afterwards
   pub record Set (o : ℕ) (x : Target) (e : Expr) (d : Dir) (σ σ' : Store) : Type 0 where

@@ -9,7 +9,9 @@ use lib.Dec.{ltb}
 use lib.IntN.{ℤ, pos}
 use native.Mathlib.Omega.{arith}
 use Rattle.expr.specs.Tree.{Expr, known}
-use Rattle.expr.specs.Agreement.{Name, scalar, array, Same}
+use Rattle.expr.specs.declared.Name.{Name}
+use Rattle.expr.specs.declared.Name.TheVariants.{Scalar, Array}
+use Rattle.expr.specs.Agreement.{Same}
 use Rattle.expr.proofs.Agree.{eval_names}
 use Rattle.records.specs.Records.{Target, cell, entry, there_target, Record, names, begin, end, assign, if, else, fi, from, loop, until, call, uncall, skip}
 use Rattle.order.specs.Trees.{Tree, records_of, cells}
@@ -91,8 +93,8 @@ module _ (t : Tree) (zs : Store) (zeros : Zeros zs) where
   get_d_behind (x ∷ σ) (suc i) = get_d_behind σ i
 
   same_behind : (σ : Store) (n : Name) → Same n (layout t) (σ ++ zs) σ
-  same_behind σ (scalar x) = get_d_behind σ x
-  same_behind σ (array a) = λ i h. get_d_behind σ _
+  same_behind σ (Scalar x) = get_d_behind σ x
+  same_behind σ (Array a) = λ i h. get_d_behind σ _
 
   value_behind : (σ : Store) (e : Expr) → evaluated t (σ ++ zs) e ≡ evaluated t σ e
   unfolding evaluated

@@ -1,6 +1,6 @@
 -- The definitions computed: document 01's worked runs, forth and back, of files that are accepted; and the index of an array.
 use Prim.Native.Nat.{ℕ, zero, suc, ◌+◌, ◌≤◌, ◌<◌}
-use mathlib.Core.Bool.{Bool, true, not, ◌&&◌}
+use mathlib.Core.Bool.{Bool, true, false, cond, not, ◌&&◌}
 use mathlib.Core.List.{List, [], ◌∷◌, flat_map}
 use mathlib.Core.Path.{◌≡◌, refl, ap, ◌∙◌}
 use native.Mathlib.Omega.{arith}
@@ -12,7 +12,6 @@ use Rattle.values.specs.Values.{wrap, apply_op}
 use Rattle.expr.specs.Tree.{con, var, read, bin, Valid, depth, encode, element, eval, any_name, known}
 use Rattle.expr.proofs.Layer.{and_true}
 use Rattle.records.specs.Records.{cell, Record, names, row, kind, body, Formed, encode_record, bytes_of, sum, InSize, is_begin, FineFrom}
-use Rattle.records.proofs.Cases.{begin_most}
 use Rattle.order.specs.Trees.{set_s, skip_s, call_s, from_s, Block, one, ◌then◌, Tree, records_of, records_p, records_s, most_open}
 use Rattle.program.specs.Says.{All, there_in, Accepts}
 use Rattle.moves.specs.Edges.{edges_s, edges_p}
@@ -56,12 +55,16 @@ data Forms : List Record → Type 0 where
   done : Forms []
   ◌and◌ : {r : Record} {rs : List Record} → Formed r → Forms rs → Forms (r ∷ rs)
 
+one_most : (b : Bool) → cond b 1 0 ≤ 1
+one_most true = omega arith
+one_most false = omega arith
+
 rest_fine : (rs : List Record) (k b : ℕ) → k + length rs ≤ 1024 → b + length rs ≤ 64 → all_of other rs ≡ true → Forms rs → FineFrom k b rs
 unfolding FineFrom
 rest_fine [] k b h g o done = tt
 rest_fine (r ∷ rs) k b h g o (f and fs) =
     let x = and_true (other r) (all_of other rs) o in
-    (f, (in_size k b r (omega arith) (omega arith) x.0, rest_fine rs (suc k) (b + is_begin (kind r)) (omega arith) (omega (arith, begin_most (kind r))) x.1 fs))
+    (f, (in_size k b r (omega arith) (omega arith) x.0, rest_fine rs (suc k) (b + is_begin (kind r)) (omega arith) (omega (arith, one_most (eqb (kind r) 2))) x.1 fs))
 
 module _ (v : ℕ) (m : Block) (bs : List Block) where
   abbrev tree : Tree

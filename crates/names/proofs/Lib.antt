@@ -1,4 +1,3 @@
 -- The laws of refusals 7 and 8 on the bytes.
 pub mod NamesCases
-pub mod FirstNot
 pub mod Determined

@@ -1,13 +1,12 @@
 -- Refusals 7 and 8 on the bytes of a file: what the record at a position names, and the first of the records that a test says no of.
-use Rattle.std.specs.Prelude.{ℕ, suc, ◌+◌, List, [], ◌∷◌, Bool, true, cond, not, ◌&&◌, ◌||◌, get_or, ltb, eqb}
+use Rattle.std.specs.Prelude.{ℕ, ◌+◌, List, Bool, true, cond, not, ◌&&◌, ◌||◌, get_or, ltb, eqb, position, Option}
 use Rattle.expr.specs.Tree.{Expr, known}
-use Rattle.expr.specs.Agreement.{occurs, scalar, array}
+use Rattle.expr.specs.Agreement.{occurs}
+use Rattle.expr.specs.declared.Name.TheVariants.{Scalar, Array}
 use Rattle.expr.specs.Bytes.{whole}
 use Rattle.records.specs.Faults.{word}
-use Rattle.records.specs.Walk.{kind_at}
+use Rattle.records.specs.Walk.{kind_at, offsets}
 use Rattle.records.specs.Reading.{tests, calls}
-use Rattle.names.specs.declared.First.{First}
-use Rattle.names.specs.declared.First.TheVariants.{Nowhere, At}
 
 -- the expression at a position, and where it ends
 abbrev pub expr_at : List ℕ → ℕ → Expr
@@ -37,23 +36,25 @@ there_at f at v a p =
 
 -- 8, "the assigned scalar or array occurs in the SET's own expressions"
 unfoldable pub free_scalar : List ℕ → ℕ → Bool
-free_scalar f at = not (occurs (scalar (word f (at + 6))) (expr_at f (at + 8)))
+free_scalar f at = not (occurs (Scalar (word f (at + 6))) (expr_at f (at + 8)))
 
 unfoldable pub free_array : List ℕ → ℕ → Bool
 free_array f at =
-    not (occurs (array (word f (at + 6))) (expr_at f (at + 8)) || occurs (array (word f (at + 6))) (expr_at f (past f (at + 8))))
+    not (occurs (Array (word f (at + 6))) (expr_at f (at + 8)) || occurs (Array (word f (at + 6))) (expr_at f (past f (at + 8))))
+
+abbrev pub free_set : List ℕ → ℕ → Bool
+free_set f at = cond (eqb (get_or f (at + 5) 0) 0) (free_scalar f at) (free_array f at)
 
 unfoldable pub free_at : List ℕ → ℕ → Bool
-free_at f at = cond (eqb (kind_at f at) 4) (cond (eqb (get_or f (at + 5) 0) 0) (free_scalar f at) (free_array f at)) true
+free_at f at = cond (eqb (kind_at f at) 4) (free_set f at) true
 
--- the first of these positions of which a test says no, counted from k
-unfoldable pub first_from : (ℕ → Bool) → ℕ → List ℕ → First
-first_from test k [] = Nowhere
-first_from test k (at ∷ ats) = cond (test at) (first_from test (suc k) ats) (At k)
+-- the first of these positions of which a test says no
+abbrev pub first_not : (ℕ → Bool) → List ℕ → Option ℕ
+first_not test ats = position (λ at. not (test at)) ats
 
-abbrev pub first_not : (ℕ → Bool) → List ℕ → First
-first_not test ats = first_from test 0 ats
+-- The first record that 7 is about, of v scalars, a arrays and p procedures; the first that 8 is about.
+abbrev pub first_unknown : List ℕ → ℕ → ℕ → ℕ → Option ℕ
+first_unknown f v a p = first_not (λ at. there_at f at v a p) (offsets f)
 
--- Each of the two is one pass over the records.
-abbrev pub passes : Bool → List ℕ → ℕ → ℕ → ℕ → ℕ → Bool
-passes own f v a p at = cond own (free_at f at) (there_at f at v a p)
+abbrev pub first_own : List ℕ → Option ℕ
+first_own f = first_not (free_at f) (offsets f)

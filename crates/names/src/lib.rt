@@ -1,156 +1,87 @@
 // Refusals 7 and 8: the first record that names what is not there, and the first SET that names its own target.
 #![tactic(auto)]
 
-ghost use Rattle.std.specs.Prelude.{◌≡◌, ◌+◌, ◌<◌, length};
-ghost use Rattle.expr.specs.Tree.{known};
-ghost use Rattle.records.specs.Walk.{offsets};
-ghost use Rattle.names.specs.Names.{expr_at, there_scalar, there_array, there_set, there_call, there_at, free_scalar, free_array, free_at, passes, first_not};
+ghost use Rattle.std.specs.Prelude.{◌≡◌, ◌<◌, length};
+ghost use Rattle.names.specs.Names.{there_set, there_at, free_set, free_at, first_unknown, first_own};
 
-use records::reading::{calls, tests};
-use records::walk::{kind_at, stride};
+use codes::{byte, short};
+use expr::{Name, mentions, names_known};
+use records::kind::Kind;
+use records::walk::{Offsets, kind_at};
 
 // The main body, which cannot be called.
 const MAIN: usize = 0;
 
-// The first record of which a pass says no.
-#[derive(Drop)]
-pub enum First {
-    Nowhere,
-    At(usize),
+// A SET whose target is a scalar says so.
+const SCALAR: usize = 0;
+
+#[tactic(auto, unfolding(crate::specs::Names::there_scalar, crate::specs::Names::there_array))]
+fn there_set(file: &[u8], at: usize, scalars: usize, arrays: usize) -> bool
+    requires { at < length file.now }
+    ensures { result ≡ there_set file.now at scalars arrays }
+{
+    let number = short(file, at + 6);
+    let first = names_known(file, at + 8, scalars, arrays);
+    if byte(file, at + 5) == SCALAR {
+        number < scalars && first.ok
+    } else {
+        number < arrays && first.ok && names_known(file, first.next, scalars, arrays).ok
+    }
 }
 
-fn there_scalar(file: &[u8], at: usize, v: usize, a: usize) -> bool
-    requires { at < length file.now }
-    ensures { result ≡ there_scalar file.now at v a }
+// The record at `at` names no scalar, array or procedure beyond so many, and does not call the main body.
+// Stays: (d) the three counts as parameters, since a struct of them would be made for this one call and taken apart again for `names_known`.
+#[tactic(auto, using(crate::proofs::NamesCases::cases))]
+fn there(file: &[u8], at: usize, scalars: usize, arrays: usize, procedures: usize) -> bool
+    ensures { result ≡ there_at file.now at scalars arrays procedures }
 {
-    if v <= codes::short(file, at + 6) {
-        return false;
+    let Some(kind) = Kind::of(kind_at(file, at)) else {
+        return true;
+    };
+    match kind {
+        Kind::Set => there_set(file, at, scalars, arrays),
+        _ if kind.is_test() => names_known(file, at + 4, scalars, arrays).ok,
+        _ if kind.is_call() => {
+            let number = short(file, at + 4);
+            number != MAIN && number < procedures
+        }
+        _ => true,
     }
-    let e = expr::names_known(file, at + 8, v, a);
-    e.ok
 }
 
-fn there_array(file: &[u8], at: usize, v: usize, a: usize) -> bool
+#[tactic(auto, unfolding(crate::specs::Names::free_scalar, crate::specs::Names::free_array))]
+fn free_set(file: &[u8], at: usize) -> bool
     requires { at < length file.now }
-    ensures { result ≡ there_array file.now at v a }
+    ensures { result ≡ free_set file.now at }
 {
-    if a <= codes::short(file, at + 6) {
-        return false;
+    let number = short(file, at + 6);
+    if byte(file, at + 5) == SCALAR {
+        !mentions(file, at + 8, Name::Scalar(number)).found
+    } else {
+        let target = Name::Array(number);
+        let index = mentions(file, at + 8, target);
+        !index.found && !mentions(file, index.next, target).found
     }
-    let i = expr::names_known(file, at + 8, v, a);
-    if i.ok {
-        let e = expr::names_known(file, i.next, v, a);
-        return e.ok;
-    }
-    false
-}
-
-fn there_set(file: &[u8], at: usize, v: usize, a: usize) -> bool
-    requires { at < length file.now }
-    ensures { result ≡ there_set file.now at v a }
-{
-    if codes::byte(file, at + 5) == 0 {
-        return there_scalar(file, at, v, a);
-    }
-    there_array(file, at, v, a)
-}
-
-fn there_test(file: &[u8], at: usize, v: usize, a: usize) -> bool
-    requires { at < length file.now }
-    ensures { result ≡ known v a (expr_at file.now (at + 4)) }
-{
-    let e = expr::names_known(file, at + 4, v, a);
-    e.ok
-}
-
-fn there_call(file: &[u8], at: usize, p: usize) -> bool
-    requires { at < length file.now }
-    ensures { result ≡ there_call file.now at p }
-{
-    let q = codes::short(file, at + 4);
-    if q == MAIN {
-        return false;
-    }
-    q < p
-}
-
-// The record at `at` names scalars below v, arrays below a and procedures from 1 to below p.
-fn there(file: &[u8], at: usize, v: usize, a: usize, p: usize) -> bool
-    requires { at < length file.now }
-    ensures { result ≡ there_at file.now at v a p }
-{
-    let k = kind_at(file, at);
-    if k == 4 {
-        return there_set(file, at, v, a);
-    }
-    if tests(k) {
-        return there_test(file, at, v, a);
-    }
-    if calls(k) {
-        return there_call(file, at, p);
-    }
-    true
-}
-
-fn free_scalar(file: &[u8], at: usize) -> bool
-    requires { at < length file.now }
-    ensures { result ≡ free_scalar file.now at }
-{
-    let x = codes::short(file, at + 6);
-    let e = expr::mentions(file, at + 8, false, x);
-    !e.found
-}
-
-fn free_array(file: &[u8], at: usize) -> bool
-    requires { at < length file.now }
-    ensures { result ≡ free_array file.now at }
-{
-    let x = codes::short(file, at + 6);
-    let i = expr::mentions(file, at + 8, true, x);
-    if i.found {
-        return false;
-    }
-    let e = expr::mentions(file, i.next, true, x);
-    !e.found
 }
 
 // The record at `at` is no SET that names its own target.
+#[tactic(auto, unfolding(crate::specs::Names::free_at))]
 fn free(file: &[u8], at: usize) -> bool
-    requires { at < length file.now }
     ensures { result ≡ free_at file.now at }
 {
-    if kind_at(file, at) == 4 {
-        if codes::byte(file, at + 5) == 0 {
-            return free_scalar(file, at);
-        }
-        return free_array(file, at);
-    }
-    true
+    kind_at(file, at) != Kind::Set as usize || free_set(file, at)
 }
 
-fn pass(own: bool, file: &[u8], v: usize, a: usize, p: usize, at: usize) -> bool
-    requires { at < length file.now }
-    ensures { result ≡ passes own file.now v a p at }
+// The first record that refusal 7 is about: what it names is not among so many scalars, arrays and procedures.
+pub fn first_unknown(file: &[u8], scalars: usize, arrays: usize, procedures: usize) -> Option<usize>
+    ensures { result ≡ first_unknown file.now scalars arrays procedures }
 {
-    if own {
-        return free(file, at);
-    }
-    there(file, at, v, a, p)
+    Offsets::of(file).position(|at| !there(file, at, scalars, arrays, procedures))
 }
 
-// One pass over all records: for 8 where `own`, for 7 where not.
-pub fn first_not(own: bool, file: &[u8], v: usize, a: usize, p: usize) -> First
-    ensures { result ≡ first_not (passes own file.now v a p) (offsets file.now) }
+// The first record that refusal 8 is about: a SET that names its own target.
+pub fn first_own(file: &[u8]) -> Option<usize>
+    ensures { result ≡ first_own file.now }
 {
-    let mut at: usize = 0;
-    let mut k: usize = 0;
-    while at < file.len() {
-        if pass(own, file, v, a, p, at) {
-            at += stride(file, at);
-            k += 1;
-        } else {
-            return First::At(k);
-        }
-    }
-    First::Nowhere
+    Offsets::of(file).position(|at| !free(file, at))
 }

@@ -4,6 +4,6 @@ pub mod OrderOpen
 pub mod OrderReads
 pub mod OrderText
 pub mod OrderSays
-pub mod OrderCases
+pub mod Stacks
 pub mod OrderWalk
 pub mod Determined

@@ -1,17 +1,21 @@
 -- A reader that keeps what it has read as parts of a tree, and whose shape is the state of Order.
 -- Assumes nothing.
-use Prim.Native.Nat.{ℕ, suc}
+use Prim.Native.Nat.{ℕ}
 use mathlib.Core.Path.{◌≡◌, refl, ap, ◌∙◌}
 use mathlib.Core.List.{List, [], ◌∷◌, ◌++◌}
 use mathlib.Core.Option.{Option, none, some}
 use mathlib.Core.Bool.{Bool, true, false, cond}
-use native.Mathlib.Omega.{arith}
-use borrow.Author.Tests.{ne_eqb}
 use lib.ListN.{length}
 use lib.Dec.{ltb}
+use Rattle.std.specs.Prelude.{Option as Maybe, Some, None, option_and_then}
 use Rattle.expr.specs.Tree.{Expr}
 use Rattle.records.specs.Records.{Record, names, begin, end, assign, if, else, fi, from, loop, until, call, uncall, skip, kind}
 use Rattle.order.specs.Trees.{Stmt, set_s, skip_s, call_s, uncall_s, if_s, from_s, Block, one, ◌then◌}
+use Rattle.records.specs.Kinds.{kind_of}
+use Rattle.order.specs.declared.open.Frame.{Frame}
+use Rattle.order.specs.declared.open.Frame.TheVariants.{If, Else, From, Loop}
+use Rattle.order.specs.declared.open.Phase.{Phase}
+use Rattle.order.specs.declared.open.Phase.TheVariants.{Start, Named, Ended, Opened, Stated}
 use Rattle.order.specs.Order.{State, at, next, named, begun, ended, passed, opened, turned, closed}
 
 -- ---- The two constructs as one: false is IF, true is FROM.
@@ -42,19 +46,19 @@ pub data Part : Type 0 where
   between : ℕ → List ℕ → List Block → Part
   within : ℕ → List ℕ → List Block → Option Block → List Layer → Part
 
-abbrev pub lower : Bool → ℕ
-lower false = 0
-lower true = 2
+abbrev pub lower : Bool → Frame
+lower false = If
+lower true = From
 
-abbrev pub upper : Bool → ℕ
-upper false = 1
-upper true = 3
+abbrev pub upper : Bool → Frame
+upper false = Else
+upper true = Loop
 
-abbrev pub frame : Layer → ℕ
+abbrev pub frame : Layer → Frame
 frame (first w e o) = lower w
 frame (second w e s o) = upper w
 
-unfoldable pub frames : List Layer → List ℕ
+unfoldable pub frames : List Layer → List Frame
 frames [] = []
 frames (l ∷ ly) = frame l ∷ frames ly
 
@@ -146,15 +150,19 @@ reads p [] = p
 reads p (r ∷ rs) = reads (grow p r) rs
 
 -- ---- Its shape goes as the check of kinds.
-unfoldable pub shape : Part → State
-shape nothing = at 0 []
-shape dead = at 5 []
-shape (between v ls []) = at 1 []
-shape (between v ls (b ∷ bs)) = at 2 []
-shape (within v ls bs none ly) = at 3 (frames ly)
-shape (within v ls bs (some b) ly) = at 4 (frames ly)
+unfoldable pub shape : Part → Maybe State
+shape nothing = Some (at Start [])
+shape dead = None
+shape (between v ls []) = Some (at Named [])
+shape (between v ls (b ∷ bs)) = Some (at Ended [])
+shape (within v ls bs none ly) = Some (at Opened (frames ly))
+shape (within v ls bs (some b) ly) = Some (at Stated (frames ly))
 
-shape_names : (v : ℕ) (ls : List ℕ) (p : Part) → shape (on_names v ls p) ≡ named (shape p)
+-- A record function on the shape.
+abbrev to : (Phase → List Frame → Maybe State) → Maybe State → Maybe State
+to g o = option_and_then (λ s. g s.phase s.opens) o
+
+shape_names : (v : ℕ) (ls : List ℕ) (p : Part) → shape (on_names v ls p) ≡ to named (shape p)
 unfolding shape
 shape_names v ls nothing = refl
 shape_names v ls dead = refl
@@ -163,7 +171,7 @@ shape_names v ls (between w ks (b ∷ bs)) = refl
 shape_names v ls (within w ks bs none ly) = refl
 shape_names v ls (within w ks bs (some a) ly) = refl
 
-shape_begin : (p : Part) → shape (on_begin p) ≡ begun (shape p)
+shape_begin : (p : Part) → shape (on_begin p) ≡ to begun (shape p)
 unfolding shape frames
 shape_begin nothing = refl
 shape_begin dead = refl
@@ -172,7 +180,7 @@ shape_begin (between w ks (b ∷ bs)) = refl
 shape_begin (within w ks bs none ly) = refl
 shape_begin (within w ks bs (some a) ly) = refl
 
-shape_end : (p : Part) → shape (on_end p) ≡ ended (shape p)
+shape_end : (p : Part) → shape (on_end p) ≡ to ended (shape p)
 unfolding shape frames
 shape_end nothing = refl
 shape_end dead = refl
@@ -181,9 +189,10 @@ shape_end (between w ks (b ∷ bs)) = refl
 shape_end (within w ks bs none ly) = refl
 shape_end (within w ks [] (some a) []) = refl
 shape_end (within w ks (b ∷ bs) (some a) []) = refl
-shape_end (within w ks bs (some a) (l ∷ ly)) = rw (ne_eqb (suc (height ly)) 0 (λ z. omega arith))
+shape_end (within w ks [] (some a) (l ∷ ly)) = refl
+shape_end (within w ks (b ∷ bs) (some a) (l ∷ ly)) = refl
 
-shape_plain : (s : Stmt) (p : Part) → shape (on_plain s p) ≡ passed (shape p)
+shape_plain : (s : Stmt) (p : Part) → shape (on_plain s p) ≡ to passed (shape p)
 unfolding shape add
 shape_plain s nothing = refl
 shape_plain s dead = refl
@@ -192,12 +201,12 @@ shape_plain s (between w ks (b ∷ bs)) = refl
 shape_plain s (within w ks bs none ly) = refl
 shape_plain s (within w ks bs (some a) ly) = refl
 
-shape_cond : (b : Bool) (p : Part) → shape (cond b p dead) ≡ cond b (shape p) (at 5 [])
+shape_cond : (b : Bool) (p : Part) → shape (cond b p dead) ≡ cond b (shape p) None
 unfolding shape
 shape_cond true p = refl
 shape_cond false p = refl
 
-shape_open : (w : Bool) (e : Expr) (p : Part) → shape (on_open w e p) ≡ opened (lower w) (shape p)
+shape_open : (w : Bool) (e : Expr) (p : Part) → shape (on_open w e p) ≡ to (opened (lower w)) (shape p)
 unfolding shape frames
 shape_open w e nothing = refl
 shape_open w e dead = refl
@@ -206,7 +215,7 @@ shape_open w e (between v ks (b ∷ bs)) = refl
 shape_open w e (within v ks bs none ly) = shape_cond (ltb (height ly) 16) (within v ks bs none (first w e none ∷ ly))
 shape_open w e (within v ks bs (some a) ly) = shape_cond (ltb (height ly) 16) (within v ks bs none (first w e (some a) ∷ ly))
 
-shape_turn : (w : Bool) (p : Part) → shape (on_turn w p) ≡ turned (lower w) (shape p)
+shape_turn : (w : Bool) (p : Part) → shape (on_turn w p) ≡ option_and_then (turned (lower w) (upper w)) (shape p)
 unfolding shape frames
 shape_turn w nothing = refl
 shape_turn w dead = refl
@@ -224,12 +233,12 @@ shape_turn false (within v ks bs (some a) (second true x s o ∷ ly)) = refl
 shape_turn true (within v ks bs (some a) (second false x s o ∷ ly)) = refl
 shape_turn true (within v ks bs (some a) (second true x s o ∷ ly)) = refl
 
-shape_within : (v : ℕ) (ls : List ℕ) (bs : List Block) (o : Option Block) (b : Block) (ly : List Layer) → shape (within v ls bs (add o b) ly) ≡ at 4 (frames ly)
+shape_within : (v : ℕ) (ls : List ℕ) (bs : List Block) (o : Option Block) (b : Block) (ly : List Layer) → shape (within v ls bs (add o b) ly) ≡ Some (at Stated (frames ly))
 unfolding shape add
 shape_within v ls bs none b ly = refl
 shape_within v ls bs (some a) b ly = refl
 
-shape_close : (w : Bool) (e : Expr) (p : Part) → shape (on_close w e p) ≡ closed (upper w) (shape p)
+shape_close : (w : Bool) (e : Expr) (p : Part) → shape (on_close w e p) ≡ option_and_then (closed (upper w)) (shape p)
 unfolding shape frames
 shape_close w e nothing = refl
 shape_close w e dead = refl
@@ -247,8 +256,8 @@ shape_close false e (within v ks bs (some a) (second true x s o ∷ ly)) = refl
 shape_close true e (within v ks bs (some a) (second false x s o ∷ ly)) = refl
 shape_close true e (within v ks bs (some a) (second true x s o ∷ ly)) = shape_within v ks bs o (one (from_s x s a e)) ly
 
-pub shape_grow : (p : Part) (r : Record) → shape (grow p r) ≡ next (shape p) (kind r)
-unfolding next kind
+pub shape_grow : (p : Part) (r : Record) → shape (grow p r) ≡ option_and_then (λ s. next s (kind r)) (shape p)
+unfolding next kind kind_of
 shape_grow p (names v ls) = shape_names v ls p
 shape_grow p begin = shape_begin p
 shape_grow p end = shape_end p

@@ -10,6 +10,8 @@ use lib.IntN.{pos}
 use Rattle.expr.specs.Tree.{Expr, con}
 use Rattle.records.specs.Records.{Record, names, begin, end, assign, if, else, fi, from, loop, until, call, uncall, skip}
 use Rattle.order.specs.Trees.{Stmt, set_s, skip_s, call_s, uncall_s, if_s, from_s, Block, one, ◌then◌, records_s, records_b, records_p}
+use Rattle.std.specs.Prelude.{Some}
+use Rattle.order.specs.declared.open.Phase.TheVariants.{Ended}
 use Rattle.order.specs.Order.{at}
 use Rattle.order.proofs.OrderParts.{opener, middle, closer, construct, Layer, first, second, Part, nothing, dead, between, within, height, app, add, on_names, on_begin, on_end, on_plain, on_open, on_turn, on_close, grow, grow_dead, reads, shape}
 use Rattle.order.proofs.OrderReads.{turns, closes}
@@ -193,21 +195,21 @@ module _ (v : ℕ) (ls : List ℕ) (bs : List Block) where
   either P h none b = h b
   either P h (some a) b = h (app a b)
 
-  last : (cs : List Block) (a : Block) → shape (between v ls (cs ++ (a ∷ []))) ≡ at 2 []
+  last : (cs : List Block) (a : Block) → shape (between v ls (cs ++ (a ∷ []))) ≡ Some (at Ended [])
   unfolding shape
   last [] a = refl
   last (b ∷ cs) a = refl
 
-  closed : (ly : List Layer) (a : Block) → shape (reads (within v ls bs (some a) ly) (closing ly)) ≡ at 2 []
+  closed : (ly : List Layer) (a : Block) → shape (reads (within v ls bs (some a) ly) (closing ly)) ≡ Some (at Ended [])
   unfolding reads closing add
   closed [] a = last bs a
   closed (first w e o ∷ ly) a = ap (λ p. shape (reads p (skip ∷ (closer w plain ∷ closing ly)))) (turns v ls bs w e a o ly)
       ∙ (ap (λ p. shape (reads p (closing ly))) (closes v ls bs w e a (one skip_s) o ly plain)
-      ∙ either (λ x. shape (reads (within v ls bs x ly) (closing ly)) ≡ at 2 []) (λ b. closed ly b) o (one (construct w e a (one skip_s) plain)))
+      ∙ either (λ x. shape (reads (within v ls bs x ly) (closing ly)) ≡ Some (at Ended [])) (λ b. closed ly b) o (one (construct w e a (one skip_s) plain)))
   closed (second w e s o ∷ ly) a = ap (λ p. shape (reads p (closing ly))) (closes v ls bs w e s a o ly plain)
-      ∙ either (λ x. shape (reads (within v ls bs x ly) (closing ly)) ≡ at 2 []) (λ b. closed ly b) o (one (construct w e s a plain))
+      ∙ either (λ x. shape (reads (within v ls bs x ly) (closing ly)) ≡ Some (at Ended [])) (λ b. closed ly b) o (one (construct w e s a plain))
 
-pub finishes : (p : Part) → (p ≡ dead → ⊥) → shape (reads p (finish p)) ≡ at 2 []
+pub finishes : (p : Part) → (p ≡ dead → ⊥) → shape (reads p (finish p)) ≡ Some (at Ended [])
 unfolding reads finish shape add
 finishes nothing h = refl
 finishes dead h = absurd (h refl)

@@ -1,52 +1,43 @@
 -- The loop over a file's records: what is left to be asked, record by record. Assumes nothing.
-use Prim.Native.Nat.{ℕ, suc, ◌+◌, ◌-◌, ◌≤◌, ◌<◌, min}
-use mathlib.Core.Path.{◌≡◌, ap, sym, ◌∙◌}
-use mathlib.Core.List.{List, [], ◌∷◌}
-use native.Mathlib.Omega.{arith}
-use native.Mathlib.Numerals.{add-one}
-use borrow.Author.Tests.{ne_eqb}
-use lib.ListN.{length}
-use Rattle.records.specs.Walk.{stride, kind_at, offsets, offsets_from, kinds_at}
-use Rattle.records.proofs.Offsets.{offsets_past, offsets_capped}
-use Rattle.order.specs.Order.{at, next, order_from, order_of}
-use Rattle.order.specs.Stack.{stack, state_of, Keeps}
-use Rattle.order.specs.declared.Open.{Open}
-use Rattle.order.specs.declared.Placed.{Placed}
-use Rattle.order.specs.declared.Placed.TheVariants.{InOrder, Misplaced}
+use Rattle.std.proofs.Common.{ℕ, ◌+◌, ◌≡◌, refl, List, [], ◌∷◌, true, false, Some, None, Result, Ok, Err, add-one, is_none}
+use Rattle.records.specs.Walk.{kind_at, kinds_at}
+use Rattle.order.specs.declared.open.Phase.{Phase}
+use Rattle.order.specs.declared.open.Phase.TheVariants.{Misplaced}
+use Rattle.order.specs.Order.{State, seen_in, seen, next, whole, order_from}
 
-onward : (m : ℕ) (f : List ℕ) (i : ℕ) → i < length f → kinds_at f (offsets_from (suc m) f i) ≡ kind_at f i ∷ kinds_at f (offsets_from m f (min (length f) (i + stride f i)))
-unfolding kinds_at
-onward m f i h = ap (kinds_at f) (offsets_capped m f i h)
+-- What is left, n records before these positions, in the state s.
+abbrev pub left : List ℕ → ℕ → State → List ℕ → Result (Unit {0}) ℕ
+left f n s ats = order_from n s (kinds_at f ats)
 
--- ---- What is left, n records before the position i, where o keeps the state.
-abbrev pub Left : List ℕ → ℕ → ℕ → Open → Placed
-Left f n i o = order_from n (state_of o) (kinds_at f (offsets_from (length f - n) f i))
+pub live : (s : State) → is_none (seen s) ≡ false → seen s ≡ Some s
+live s e = go s.phase e
+  where
+    go : (p : Phase) → is_none (seen_in p s) ≡ false → seen_in p s ≡ Some s
+    go Misplaced h = cc
+    go _ h = refl
 
-pub left_start : (f ks : List ℕ) → order_of (kinds_at f (offsets f)) ≡ Left f 0 0 (record { kinds = ks; count = 0; phase = 0 })
-unfolding order_of offsets stack
-left_start f ks = let z : length f ≡ length f - 0 = omega arith in ap (λ m. order_from 0 (at 0 []) (kinds_at f (offsets_from m f 0))) z
+pub stuck : (s : State) → is_none (seen s) ≡ true → seen s ≡ None
+stuck s e = go s.phase e
+  where
+    go : (p : Phase) → is_none (seen_in p s) ≡ true → seen_in p s ≡ None
+    go Misplaced h = refl
+    go _ h = cc
 
-module _ (f : List ℕ) (n i : ℕ) (o : Open) where
-  here : i < length f → n ≤ i → Left f n i o ≡ order_from n (state_of o) (kind_at f i ∷ kinds_at f (offsets_from (length f - (n + 1)) f (min (length f) (i + stride f i))))
-  here h b = let z : length f - n ≡ suc (length f - (n + 1)) = omega arith in
-      ap (λ m. order_from n (state_of o) (kinds_at f (offsets_from m f i))) z ∙ ap (λ ks. order_from n (state_of o) ks) (onward (length f - (n + 1)) f i h)
+module _ (f : List ℕ) (n : ℕ) (s : State) (ats : List ℕ) where
+  module _ (at : ℕ) (on : List ℕ) (steps : ats ≡ at ∷ on) where
+    pub left_on : (t : State) → next s (kind_at f at) ≡ Some t → left f n s ats ≡ left f (n + 1) t on
+    unfolding order_from kinds_at
+    left_on t e = rw (steps, e, add-one n)
 
-  came : (r : Open) (k : ℕ) → k ≡ kind_at f i → Keeps r (next (state_of o) k) → next (state_of o) (kind_at f i) ≡ state_of r
-  came r k e s = ap (λ x. next (state_of o) x) (sym e) ∙ sym s.state
+    pub left_stuck : next s (kind_at f at) ≡ None → left f n s ats ≡ Err n
+    unfolding order_from kinds_at
+    left_stuck e = rw (steps, e)
 
-  pub left_on : (r : Open) (k : ℕ) → i < length f → n ≤ i → k ≡ kind_at f i → Keeps r (next (state_of o) k) → (r.phase ≡ 5 → ⊥)
-      → Left f n i o ≡ Left f (n + 1) (min (length f) (i + stride f i)) r
-  unfolding order_from
-  left_on r k h b e s live = here h b ∙ (let z = came r k e s in rw (z, ne_eqb r.phase 5 live, add-one n))
+  module _ (none : ats ≡ []) where
+    pub left_whole : whole s.phase ≡ true → left f n s ats ≡ Ok tt
+    unfolding order_from kinds_at
+    left_whole e = rw (none, e)
 
-  pub left_stuck : (r : Open) (k : ℕ) → i < length f → n ≤ i → k ≡ kind_at f i → Keeps r (next (state_of o) k) → r.phase ≡ 5 → Left f n i o ≡ Misplaced n
-  unfolding order_from
-  left_stuck r k h b e s p = here h b ∙ (let z = came r k e s in rw (z, p))
-
-  pub left_whole : length f ≤ i → o.phase ≡ 2 → Left f n i o ≡ InOrder
-  unfolding order_from kinds_at
-  left_whole h p = rw (offsets_past (length f - n) f i h, p)
-
-  pub left_short : length f ≤ i → (o.phase ≡ 2 → ⊥) → Left f n i o ≡ Misplaced n
-  unfolding order_from kinds_at
-  left_short h p = rw (offsets_past (length f - n) f i h, ne_eqb o.phase 2 p)
+    pub left_short : whole s.phase ≡ false → left f n s ats ≡ Err n
+    unfolding order_from kinds_at
+    left_short e = rw (none, e)

@@ -1,74 +1,108 @@
 -- Refusal 6 as a check that goes over the kinds of the records once: what may come next, and which constructs are open.
 -- proofs/OrderSays.antt joins it to Trees.Ordered and Trees.Misplaced, which are what a reader believes.
-use Rattle.std.specs.Prelude.{ℕ, suc, List, [], ◌∷◌, map, Bool, cond, ◌&&◌, ◌||◌, length, drop, ltb, eqb}
+use Rattle.std.specs.Prelude.{ℕ, suc, List, [], ◌∷◌, map, Bool, true, false, cond, length, drop, ltb, eqb, option_and_then, option_map, unwrap_or, Option, Some, None, Result, Ok, Err}
 use Rattle.records.specs.Records.{Record, kind}
-use Rattle.order.specs.declared.Placed.{Placed}
-use Rattle.order.specs.declared.Placed.TheVariants.{InOrder, Misplaced}
+use Rattle.records.specs.Kinds.{kind_of}
+use Rattle.records.specs.declared.kind.Kind.{Kind}
+use Rattle.records.specs.declared.kind.Kind.TheVariants as kind
+use Rattle.order.specs.declared.open.Frame.{Frame}
+use Rattle.order.specs.declared.open.Frame.TheVariants.{If, Else, From, Loop}
+use Rattle.order.specs.declared.open.Phase.{Phase}
+use Rattle.order.specs.declared.open.Phase.TheVariants.{Start, Named, Ended, Opened, Stated, Misplaced}
 
 abbrev pub kinds : List Record → List ℕ
 kinds rs = map kind rs
 
--- The phase: 0 NAMES must come; 1 the first BEGIN; 2 BEGIN or the end; in a procedure, 3 a statement must come, 4 may come; 5 no order is valid.
--- The open constructs, innermost first, as document 01 numbers frames: 0 in IF's s1, 1 in its s2, 2 in FROM's s1, 3 in its s2.
+-- The phase: what has come; and the open constructs, innermost first.
 pub record State : Type 0 where
-  pub phase : ℕ
-  pub opens : List ℕ
+  pub phase : Phase
+  pub opens : List Frame
 
-abbrev pub at : ℕ → List ℕ → State
-at p ls = record { phase = p; opens = ls }
+abbrev pub at : Phase → List Frame → State
+at p fs = record { phase = p; opens = fs }
 
-abbrev pub is : State → ℕ → Bool
-is s p = eqb s.phase p
+-- The code's state, none where no order is valid.
+abbrev pub seen_in : Phase → State → Option State
+seen_in Misplaced s = None
+seen_in _ s = Some s
 
-abbrev pub inside : State → Bool
-inside s = is s 3 || is s 4
+abbrev pub seen : State → Option State
+seen s = seen_in s.phase s
 
-abbrev pub innermost : List ℕ → ℕ
-innermost [] = 4
-innermost (f ∷ ls) = f
+-- "0 in IF's s1, 1 in its s2, 2 in FROM's s1, 3 in its s2"
+abbrev pub frame_number : Frame → ℕ
+frame_number If = 0
+frame_number Else = 1
+frame_number From = 2
+frame_number Loop = 3
 
--- A record comes: where it may stand, the state after it, else 5.
-abbrev pub only_if : Bool → State → State
-only_if b s = cond b s (at 5 [])
+-- A record comes: the state after it, where it may stand.
+abbrev pub named : Phase → List Frame → Option State
+named Start fs = Some (at Named fs)
+named _ fs = None
 
-abbrev pub named : State → State
-named s = only_if (is s 0) (at 1 [])
+abbrev pub begun : Phase → List Frame → Option State
+begun Named fs = Some (at Opened fs)
+begun Ended fs = Some (at Opened fs)
+begun _ fs = None
 
-abbrev pub begun : State → State
-begun s = only_if (is s 1 || is s 2) (at 3 [])
+abbrev pub ended : Phase → List Frame → Option State
+ended Stated [] = Some (at Ended [])
+ended _ _ = None
 
-abbrev pub ended : State → State
-ended s = only_if (is s 4 && eqb (length s.opens) 0) (at 2 [])
+abbrev pub passed : Phase → List Frame → Option State
+passed Opened fs = Some (at Stated fs)
+passed Stated fs = Some (at Stated fs)
+passed _ fs = None
 
-abbrev pub passed : State → State
-passed s = only_if (inside s) (at 4 s.opens)
+-- "at most 16 constructs open"
+abbrev pub one_more : Frame → List Frame → Option State
+one_more f fs = cond (ltb (length fs) 16) (Some (at Opened (f ∷ fs))) None
 
-abbrev pub opened : ℕ → State → State
-opened f s = only_if (inside s && ltb (length s.opens) 16) (at 3 (f ∷ s.opens))
+abbrev pub opened : Frame → Phase → List Frame → Option State
+opened f Opened fs = one_more f fs
+opened f Stated fs = one_more f fs
+opened f _ fs = None
 
-abbrev pub turned : ℕ → State → State
-turned f s = only_if (is s 4 && eqb (innermost s.opens) f) (at 3 (suc f ∷ drop 1 s.opens))
+-- The part is f, and a statement of it has come.
+abbrev pub meets : Frame → Phase → List Frame → Bool
+meets f Stated (g ∷ fs) = eqb (frame_number g) (frame_number f)
+meets f _ _ = false
 
-abbrev pub closed : ℕ → State → State
-closed f s = only_if (is s 4 && eqb (innermost s.opens) f) (at 4 (drop 1 s.opens))
+abbrev pub turned : Frame → Frame → State → Option State
+turned f g s = cond (meets f s.phase s.opens) (Some (at Opened (g ∷ drop 1 s.opens))) None
 
-unfoldable pub next : State → ℕ → State
-next s k =
-    cond (eqb k 1) (named s)
-    (cond (eqb k 2) (begun s)
-    (cond (eqb k 3) (ended s)
-    (cond (eqb k 5) (opened 0 s)
-    (cond (eqb k 6) (turned 0 s)
-    (cond (eqb k 7) (closed 1 s)
-    (cond (eqb k 8) (opened 2 s)
-    (cond (eqb k 9) (turned 2 s)
-    (cond (eqb k 10) (closed 3 s)
-    (only_if (eqb k 4 || (eqb k 11 || (eqb k 12 || eqb k 13))) (passed s))))))))))
+abbrev pub closed : Frame → State → Option State
+closed f s = cond (meets f s.phase s.opens) (Some (at Stated (drop 1 s.opens))) None
 
--- The kinds that are left, n records being before them.
-unfoldable pub order_from : ℕ → State → List ℕ → Placed
-order_from n s [] = cond (is s 2) InOrder (Misplaced n)
-order_from n s (k ∷ ks) = cond (is (next s k) 5) (Misplaced n) (order_from (suc n) (next s k) ks)
+abbrev pub after : State → Kind → Option State
+after s kind.Names = named s.phase s.opens
+after s kind.Begin = begun s.phase s.opens
+after s kind.End = ended s.phase s.opens
+after s kind.Set = passed s.phase s.opens
+after s kind.If = opened If s.phase s.opens
+after s kind.Else = turned If Else s
+after s kind.Fi = closed Else s
+after s kind.From = opened From s.phase s.opens
+after s kind.Loop = turned From Loop s
+after s kind.Until = closed Loop s
+after s kind.Call = passed s.phase s.opens
+after s kind.Uncall = passed s.phase s.opens
+after s kind.Skip = passed s.phase s.opens
 
-unfoldable pub order_of : List ℕ → Placed
-order_of ks = order_from 0 (at 0 []) ks
+-- A record of the kind of that number comes.
+unfoldable pub next : State → ℕ → Option State
+next s n = option_and_then (after s) (kind_of n)
+
+-- The records may stop there.
+abbrev pub whole : Phase → Bool
+whole Ended = true
+whole _ = false
+
+-- The kinds that are left, n records being before them: in order, or the first record that is misplaced.
+unfoldable pub order_from : ℕ → State → List ℕ → Result (Unit {0}) ℕ
+order_from n s [] = cond (whole s.phase) (Ok tt) (Err n)
+order_from n s (k ∷ ks) = unwrap_or (option_map (λ t. order_from (suc n) t ks) (next s k)) (Err n)
+
+unfoldable pub order_of : List ℕ → Result (Unit {0}) ℕ
+order_of ks = order_from 0 (at Start []) ks

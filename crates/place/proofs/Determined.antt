@@ -12,6 +12,7 @@ use Rattle.place.proofs.Place.pushed.Reads as pushed
 use Rattle.place.proofs.Place.popped.Reads as popped
 use Rattle.place.proofs.Place.changed.Reads as changed
 use Rattle.place.proofs.Place.top.Reads as top
+use Rattle.place.proofs.innermost.Reads as innermost
 use Rattle.place.proofs.top_of.Reads as top_of
 use Rattle.place.proofs.plain.Reads as plain
 
@@ -39,6 +40,9 @@ module _ (κs : Lfts 0) where
 
   pub plain_determined : (a : _) (r r' : _) (s s' : _) → plain.Post κs a r s → plain.Post κs a r' s' → r ≡ r'
   plain_determined a r r' s s' p q = decided (Plain a.0) r r' p q
+
+pub innermost_determined : (κs : Lfts 1) (a : _) (r r' : _) (s s' : _) → innermost.Post κs a r s → innermost.Post κs a r' s' → r ≡ r'
+innermost_determined κs a r r' s s' p q = p ∙ sym q
 
 pub top_of_determined : (κs : Lfts 1) (a : _) (r r' : _) (s s' : _) → top_of.Post κs a r s → top_of.Post κs a r' s' → r ≡ r'
 top_of_determined κs a r r' s s' p q = p ∙ sym q

@@ -3,6 +3,7 @@
 --     held_injective    so no struct holds two places
 --     held_seen         a struct with a direction, a count, kinds and unused slots as they must be holds the place seen in it
 --     plain_yes         so it is plain; plain_direction, -count, -kind, -unused-kinds and -unused-labels: and each plain one is such
+--     decides_slotted   so an answer that tells whether a struct is such decides `Plain`
 --     plain_of_lem          the test `plain_of` decides `Plain`
 use mathlib.Core.Path.{◌≡◌, refl, sym, ap, ◌∙◌}
 use borrow.Author.Count.{below_more}
@@ -12,8 +13,9 @@ use borrow.Author.Tests.{eq-eqb, eqb-true, eqb-false, leb-true, leb-false}
 use mathlib.Core.List.{List, [], ◌∷◌, ◌++◌, map, reverse, reverse-cons, append_assoc}
 use Prim.Native.Nat.{ℕ, zero, suc, ◌+◌, ◌-◌, ◌≤◌, ◌<◌}
 use native.Mathlib.Omega.{arith}
-use lib.ListN.{length, length-map, get_or, take, drop, replicate, length-reverse, length-drop, length-replicate, get_or-replicate, take-append-drop}
-use lib.Seq.{get_or_at, get_or-drop, take-suc, ext_get_or, get_or-append-add}
+use lib.ListN.{length, length-map, get_or, take, drop, replicate, length-reverse, length-take, length-drop, length-replicate, get_or-replicate, take-append-drop}
+use lib.Seq.{get_or_at, get_or-take, get_or-drop, take-suc, ext_get_or, get_or-append-add}
+use Rattle.std.specs.Prelude.{◌↔◌, EachIndex, IsTrue}
 use Rattle.place.specs.declared.Place.{Place as Held}
 use Rattle.place.specs.Places.{Dir, down, up, Frame, in_then, in_else, in_do, in_loop, called, frame_kind, frame_label, Place}
 use Rattle.place.specs.Slots.{dir_number, slots, held, Plain, Decides, dir_of, frame_of, frames_in, seen, same_list, plain_of}
@@ -164,22 +166,45 @@ module _ (h : Held) (y : Plain h) where
   pub plain_unused_labels : (k : ℕ) → k < 1104 → h.count ≤ k → get_or h.labels k 0 ≡ 0
   plain_unused_labels = rw y.holds (λ k r t. slots_unused (map frame_label y.place.frames) k (omega (arith, length-map y.place.frames frame_label)) r)
 
--- ---- what each test of `plain` shows
-module _ (h : Held) where
-  pub not_direction : 1 < h.direction → Plain h → ⊥
-  not_direction r y = omega (arith, plain_direction h y)
+-- ---- what the tests of `plain` say together: the slots in use hold kinds of frames, and the others 0
+abbrev pub AreUnused : List ℕ → Type 0
+AreUnused s = EachIndex s (λ k. get_or s k 0 ≡ 0)
 
-  pub not_count : 1104 < h.count → Plain h → ⊥
-  not_count r y = omega (arith, plain_count h y)
+abbrev pub Slotted : Held → Type 0
+Slotted h =
+    (h.direction ≤ 1) × ((h.count ≤ 1104) × (EachIndex (take h.count h.kinds) (λ k. get_or (take h.count h.kinds) k 0 ≤ 4)
+    × (AreUnused (drop h.count h.kinds) × AreUnused (drop h.count h.labels))))
 
-  pub not_kinds : (((k : ℕ) → k < h.count → get_or h.kinds k 0 ≤ 4) → ⊥) → Plain h → ⊥
-  not_kinds r y = r (plain_kind h y)
+module _ (h : Held) (lk : length h.kinds ≡ 1104) (ll : length h.labels ≡ 1104) where
+  dropped : (s : List ℕ) (n : ℕ) → length s ≡ 1104 → AreUnused (drop n s) → (k : ℕ) → k < 1104 → n ≤ k → get_or s k 0 ≡ 0
+  dropped s n e z k r t =
+      let i : k ≡ n + (k - n) = omega arith in
+      ap (λ (j : ℕ). get_or s j 0) i ∙ (sym (get_or-drop n s (k - n) 0) ∙ z (k - n) (omega (arith, length-drop n s)))
 
-  pub not_unused_kinds : (((k : ℕ) → k < 1104 → h.count ≤ k → get_or h.kinds k 0 ≡ 0) → ⊥) → Plain h → ⊥
-  not_unused_kinds r y = r (plain_unused_kinds h y)
+  undropped : (s : List ℕ) (n : ℕ) → length s ≡ 1104 → ((k : ℕ) → k < 1104 → n ≤ k → get_or s k 0 ≡ 0) → AreUnused (drop n s)
+  undropped s n e z k r = get_or-drop n s k 0 ∙ z (n + k) (omega (arith, length-drop n s)) (omega arith)
 
-  pub not_unused_labels : (((k : ℕ) → k < 1104 → h.count ≤ k → get_or h.labels k 0 ≡ 0) → ⊥) → Plain h → ⊥
-  not_unused_labels r y = r (plain_unused_labels h y)
+  slotted_plain : Slotted h → Plain h
+  slotted_plain (d, (n, (ks, (uk, ul)))) =
+      plain_yes h lk ll d n
+      (λ k r. rw (← get_or-take h.count h.kinds k 0 r) (ks k (omega (arith, length-take h.count h.kinds))))
+      (dropped h.kinds h.count lk uk) (dropped h.labels h.count ll ul)
+
+  plain_slotted : Plain h → Slotted h
+  plain_slotted y = (
+    plain_direction h y,
+    (
+      plain_count h y,
+      (
+        (λ k r. let m : k < h.count = omega (arith, length-take h.count h.kinds) in rw get_or-take (plain_kind h y k m)),
+        (undropped h.kinds h.count lk (plain_unused_kinds h y), undropped h.labels h.count ll (plain_unused_labels h y)),
+      ),
+    ),
+  )
+
+pub decides_slotted : (h : Held) (r : Bool) → length h.kinds ≡ 1104 → length h.labels ≡ 1104 → (IsTrue r ↔ Slotted h) → Decides r (Plain h)
+decides_slotted h true lk ll e = slotted_plain h lk ll (e.0 refl)
+decides_slotted h false lk ll e = λ y. absurd (let z : ◌≡◌ {A = Bool} false true = e.1 (plain_slotted h lk ll y) in let u : ◌≡◌ {A = ℕ} 0 1 = cc in omega arith)
 
 -- an answer that is known
 pub yes : {X : Type 0} (b : Bool) → Decides b X → not b ≡ false → X

@@ -1,7 +1,7 @@
 -- The methods of the struct are the document's operations on the place that it holds. Assumes nothing.
 --     blank_held, turned_held, moved_held     all zeros; the same edge the other way; the same frames at another edge
 --     pushed_held, popped_held, changed_held  a frame more; the innermost less; the innermost with another kind
---     top_held, top_held_none                 the innermost frame
+--     top_held, top_held_none                 the innermost frame; top_of_slots: its number in one list of slots
 --     turned_twice                            a turn undone
 use mathlib.Core.Path.{◌≡◌, refl, sym, ◌∙◌}
 use mathlib.Core.List.{List, [], ◌∷◌, map, reverse, reverse-cons, append_assoc}
@@ -13,11 +13,12 @@ use lib.Dec.{ltb}
 use borrow.Author.Tests.{lt-ltb}
 use lib.ListN.{length, length-map, get_or, set, replicate, length-reverse}
 use lib.Seq.{set_at, get_or_at}
+use Rattle.std.specs.Prelude.{Some, None}
 use Rattle.place.specs.declared.Place.{Place as Held}
 use Rattle.place.specs.Places.{Dir, down, up, Frame, frame_kind, frame_label, Place, turn}
 use Rattle.place.specs.Slots.{dir_number, slots, held}
 use Rattle.place.specs.Methods.{zeros, blank_of, flipped, turned_of, moved_of, pushed_of, popped_of, changed_of, top_at, top_in}
-use Rattle.place.proofs.Cases.{pushed_room, popped_here, changed_here, top_here, top_none}
+use Rattle.place.proofs.Cases.{some_none, some_here, pushed_room, popped_here, changed_here, top_here}
 
 -- the place p with other frames
 abbrev pub framed : Place → List Frame → Place
@@ -87,14 +88,22 @@ module _ (p : Place) (f : Frame) (fs : List Frame) where
 
     pub changed_held : (g : Frame) → frame_label g ≡ frame_label f → changed_of (held (framed p (f ∷ fs))) (frame_kind g) ≡ held (framed p (g ∷ fs))
     changed_held g e =
-        sym (changed_here (held (framed p (f ∷ fs))) (frame_kind g) there (omega arith))
+        sym (changed_here (held (framed p (f ∷ fs))) there (omega arith) (frame_kind g))
         ∙ rw (less (length fs), change_slots (frame_kind f) (map frame_kind fs) (length fs) (length-map fs frame_kind) (frame_kind g), e)
 
-    top_of_slots : (g : Frame → ℕ) (none : ℕ) → top_at (slots (map g (f ∷ fs))) (suc (length fs)) none ≡ g f
+    pub top_of_slots : (g : Frame → ℕ) (none : ℕ) → top_at (slots (map g (f ∷ fs))) (suc (length fs)) none ≡ g f
     top_of_slots g none = sym (top_here (slots (map g (f ∷ fs))) (suc (length fs)) none there (omega arith)) ∙ rw (less (length fs)) (top_slots (g f) (map g fs) (length fs) (length-map fs g))
 
-    pub top_held : top_in (held (framed p (f ∷ fs))) ≡ record { kind = frame_kind f; label = frame_label f }
-    top_held = rw (top_of_slots frame_kind 9, top_of_slots frame_label 0)
+    pub top_held : top_in (held (framed p (f ∷ fs))) ≡ Some (record { kind = frame_kind f; label = frame_label f })
+    unfolding top_in
+    top_held =
+        rw (
+          some_here (suc (length fs)) there (omega arith),
+          less (length fs),
+          top_slots (frame_kind f) (map frame_kind fs) (length fs) (length-map fs frame_kind),
+          top_slots (frame_label f) (map frame_label fs) (length fs) (length-map fs frame_label),
+        )
 
-pub top_held_none : (p : Place) → top_in (held (framed p [])) ≡ record { kind = 9; label = 0 }
-top_held_none p = rw (← top_none (slots []) 0 9 refl, ← top_none (slots []) 0 0 refl)
+pub top_held_none : (p : Place) → top_in (held (framed p [])) ≡ None
+unfolding top_in
+top_held_none p = rw (some_none 0 refl)

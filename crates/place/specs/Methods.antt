@@ -1,5 +1,5 @@
 -- What the methods of the struct answer, for every value that it can have. Assumes nothing: these are definitions.
-use Rattle.std.specs.Prelude.{ℕ, ◌+◌, ◌-◌, Bool, false, cond, List, eqb, leb, ltb, get_or, set, replicate}
+use Rattle.std.specs.Prelude.{ℕ, ◌+◌, ◌-◌, Bool, false, cond, List, eqb, leb, ltb, get_or, set, replicate, Option, Some, None}
 use Rattle.place.specs.declared.Place.{Place as Held}
 use Rattle.place.specs.declared.Top.{Top}
 
@@ -36,8 +36,11 @@ popped_of h = cond (some h.count) (with_frames h (h.count - 1) (set h.kinds (h.c
 unfoldable pub changed_of : Held → ℕ → Held
 changed_of h k = cond (some h.count) (with_frames h h.count (set h.kinds (h.count - 1) k) h.labels) h
 
+unfoldable pub innermost_at : List ℕ → ℕ → Option ℕ
+innermost_at s n = cond (some n) (Some (get_or s (n - 1) 0)) None
+
 unfoldable pub top_at : List ℕ → ℕ → ℕ → ℕ
 top_at s n none = cond (some n) (get_or s (n - 1) 0) none
 
-abbrev pub top_in : Held → Top
-top_in h = record { kind = top_at h.kinds h.count 9; label = top_at h.labels h.count 0 }
+unfoldable pub top_in : Held → Option Top
+top_in h = cond (some h.count) (Some (record { kind = get_or h.kinds (h.count - 1) 0; label = get_or h.labels (h.count - 1) 0 })) None

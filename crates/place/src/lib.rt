@@ -2,10 +2,16 @@
 // Slot 0 is the outermost frame, so that a push and a pop touch one slot; unused slots hold 0. Every function is total.
 #![tactic(auto)]
 
-ghost use Rattle.std.specs.Prelude.{◌≡◌, ℕ, ◌≤◌, ◌<◌, get_or};
+ghost use Rattle.std.specs.Prelude.{◌≡◌, ◌+◌, ◌≤◌, ◌<◌, ◌↔◌, Bool, false, get_or, length, EachIndex, IsTrue, MatchOption};
 ghost use Rattle.place.specs.Slots.{Plain, Decides};
-ghost use Rattle.place.specs.Methods.{zeros, blank_of, turned_of, moved_of, pushed_of, popped_of, changed_of, top_at, top_in};
+ghost use Rattle.place.specs.Methods.{blank_of, turned_of, moved_of, pushed_of, popped_of, changed_of, some, innermost_at, top_at, top_in};
 
+// A place has room for so many frames.
+pub const FRAMES: usize = 1104;
+// The kind of a call's frame, the highest.
+pub const CALLED: u16 = 4;
+
+// Stays: (a) the C interface: a direction and kinds as numbers, and slots with a count beside them.
 #[repr(C)]
 #[derive(Clone, Copy)]
 pub struct Place {
@@ -13,12 +19,12 @@ pub struct Place {
     pub a: u16,
     pub b: u16,
     pub count: usize,
-    pub kinds: [u16; 1104],
-    pub labels: [u16; 1104],
+    pub kinds: [u16; FRAMES],
+    pub labels: [u16; FRAMES],
 }
 
-// The innermost frame; kind 9 where there is none.
-#[derive(Drop)]
+// A frame.
+#[derive(Clone, Copy)]
 pub struct Top {
     pub kind: u16,
     pub label: u16,
@@ -26,173 +32,150 @@ pub struct Top {
 
 impl Place {
     // All zeros: it stands for no place.
+    #[tactic(auto, unfolding(crate::specs::Methods::zeros))]
     pub fn blank() -> Place
         ensures { result ≡ blank_of }
     {
-        let kinds = none();
-        let labels = none();
         Place {
             direction: 0,
             a: 0,
             b: 0,
             count: 0,
-            kinds,
-            labels,
+            kinds: [0; FRAMES],
+            labels: [0; FRAMES],
         }
     }
 
     // The same edge the other way.
-    pub fn turned(mut self) -> Place
+    pub fn turned(self) -> Place
         ensures { result ≡ turned_of self }
     {
-        let a = self.a;
-        let b = self.b;
-        let d = self.direction;
-        self.a = b;
-        self.b = a;
-        if 1 < d {
-            return self;
+        let direction = match self.direction {
+            0 => 1,
+            1 => 0,
+            other => other,
+        };
+        Place {
+            direction,
+            a: self.b,
+            b: self.a,
+            ..self
         }
-        self.direction = 1 - d;
-        self
     }
 
     // The same frames at another edge.
-    pub fn moved(mut self, direction: u8, a: u16, b: u16) -> Place
+    pub fn moved(self, direction: u8, a: u16, b: u16) -> Place
         ensures { result ≡ moved_of self direction a b }
     {
-        self.direction = direction;
-        self.a = a;
-        self.b = b;
-        self
+        Place {
+            direction,
+            a,
+            b,
+            ..self
+        }
     }
 
     // A frame more, innermost; a full place stays as it is.
+    #[tactic(auto, unfolding(crate::specs::Methods::pushed_of))]
     pub fn pushed(mut self, kind: u16, label: u16) -> Place
         ensures { result ≡ pushed_of self kind label }
     {
         let at = self.count;
-        if 1104 <= at {
-            return self;
+        if at < FRAMES {
+            self.kinds[at] = kind;
+            self.labels[at] = label;
+            self.count = at + 1;
         }
-        self.kinds[at] = kind;
-        self.labels[at] = label;
-        self.count = at + 1;
         self
     }
 
     // The innermost frame less; a place without one stays as it is.
+    #[tactic(auto, unfolding(crate::specs::Methods::some, crate::specs::Methods::popped_of))]
     pub fn popped(mut self) -> Place
         ensures { result ≡ popped_of self }
     {
-        let n = self.count;
-        if n == 0 {
-            return self;
+        if let Some(last) = last_of(self.count) {
+            self.kinds[last] = 0;
+            self.labels[last] = 0;
+            self.count = last;
         }
-        if 1104 < n {
-            return self;
-        }
-        self.kinds[n - 1] = 0;
-        self.labels[n - 1] = 0;
-        self.count = n - 1;
         self
     }
 
     // Another kind for the innermost frame; a place without one stays as it is.
+    #[tactic(auto, unfolding(crate::specs::Methods::some, crate::specs::Methods::changed_of))]
     pub fn changed(mut self, kind: u16) -> Place
         ensures { result ≡ changed_of self kind }
     {
-        let n = self.count;
-        if n == 0 {
-            return self;
+        if let Some(last) = last_of(self.count) {
+            self.kinds[last] = kind;
         }
-        if 1104 < n {
-            return self;
-        }
-        self.kinds[n - 1] = kind;
         self
     }
 
     // The innermost frame.
-    pub fn top(self) -> Top
+    #[tactic(auto, unfolding(crate::specs::Methods::some, crate::specs::Methods::top_in))]
+    pub fn top(self) -> Option<Top>
         ensures { result ≡ top_in self }
     {
-        let n = self.count;
-        let kind = top_of(&self.kinds, n, 9);
-        let label = top_of(&self.labels, n, 0);
-        Top { kind, label }
+        let last = last_of(self.count)?;
+        Some(Top {
+            kind: self.kinds[last],
+            label: self.labels[last],
+        })
     }
 }
 
-// Slots that hold 0.
-fn none() -> [u16; 1104]
-    ensures { result ≡ zeros }
+// The slot of the innermost of n frames.
+#[tactic(auto, unfolding(crate::specs::Methods::some))]
+fn last_of(n: usize) -> Option<usize>
+    ensures { MatchOption result (some n ≡ false) (λ i. (n ≡ i + 1) × (n ≤ 1104)) }
 {
-    [0u16; 1104]
+    match n {
+        1..=FRAMES => Some(n - 1),
+        _ => None,
+    }
+}
+
+// The innermost of n slots.
+#[tactic(auto, unfolding(crate::specs::Methods::some, crate::specs::Methods::innermost_at))]
+pub fn innermost(s: &[u16; FRAMES], n: usize) -> Option<u16>
+    ensures { result ≡ innermost_at s.now n }
+{
+    let last = last_of(n)?;
+    Some(s[last])
 }
 
 // The innermost of n slots, or `none` where there is none.
-pub fn top_of(s: &[u16; 1104], n: usize, none: u16) -> u16
+// Stays: (a) the clause of `top_of` itself, and that of `decide` (specs/Ways `sight`), speak of `top_at` with a number for none.
+#[tactic(auto, unfolding(crate::specs::Methods::innermost_at, crate::specs::Methods::top_at))]
+pub fn top_of(s: &[u16; FRAMES], n: usize, none: u16) -> u16
     ensures { result ≡ top_at s.now n none }
 {
-    if n == 0 {
-        return none;
-    }
-    if 1104 < n {
-        return none;
-    }
-    s[n - 1]
+    innermost(s, n).unwrap_or(none)
 }
 
-// Whether the first n slots are kinds of frames.
-fn are_kinds(s: &[u16; 1104], n: usize) -> bool
-    requires { n ≤ 1104 }
-    ensures { Decides result ((k : ℕ) → k < n → get_or s.now k 0 ≤ 4) }
+// Whether all of these slots are kinds of frames.
+fn are_kinds(s: &[u16]) -> bool
+    ensures { IsTrue result ↔ EachIndex s.now (λ k. get_or s.now k 0 ≤ 4) }
 {
-    let mut i = 0;
-    while i < n {
-        if 4 < s[i] {
-            return false;
-        }
-        i += 1;
-    }
-    true
+    s.iter().all(|kind| *kind <= CALLED)
 }
 
-// Whether the slots from n on hold 0.
-fn are_unused(s: &[u16; 1104], n: usize) -> bool
-    requires { n ≤ 1104 }
-    ensures { Decides result ((k : ℕ) → k < 1104 → n ≤ k → get_or s.now k 0 ≡ 0) }
+// Whether all of these slots hold 0.
+fn are_unused(s: &[u16]) -> bool
+    ensures { IsTrue result ↔ EachIndex s.now (λ k. get_or s.now k 0 ≡ 0) }
 {
-    let mut i = n;
-    while i < 1104 {
-        if s[i] != 0 {
-            return false;
-        }
-        i += 1;
-    }
-    true
+    s.iter().all(|number| *number == 0)
 }
 
 // Whether p holds some place of the document's.
 pub fn plain(p: Place) -> bool
     ensures { Decides result (Plain p) }
 {
-    if 1 < p.direction {
-        return false;
-    }
-    let n = p.count;
-    if 1104 < n {
-        return false;
-    }
-    if !are_kinds(&p.kinds, n) {
-        return false;
-    }
-    if !are_unused(&p.kinds, n) {
-        return false;
-    }
-    if !are_unused(&p.labels, n) {
-        return false;
-    }
-    true
+    p.direction <= 1
+        && p.count <= FRAMES
+        && are_kinds(&p.kinds[..p.count])
+        && are_unused(&p.kinds[p.count..])
+        && are_unused(&p.labels[p.count..])
 }

@@ -1,6 +1,7 @@
 -- Any two outcomes that a public function's contract permits are equal: the answer, and the lent buffer afterwards.
 use mathlib.Core.Path.{◌≡◌, sym, ◌∙◌}
 use Prim.Native.Nat.{ℕ}
+use Rattle.print.proofs.reason.Reads as reason
 use Rattle.print.proofs.put_refused.Reads as Put-refused
 use Rattle.print.proofs.put_steps.Reads as put-steps
 use Rattle.print.proofs.put_at.Reads as put-at
@@ -28,3 +29,6 @@ put_frames_determined κs a r q s t h k = determined h k
 
 pub put_cells_determined : (κs a : _) (r q : ℕ) (s t : _) → put-cells.Post κs a r s → put-cells.Post κs a q t → (r ≡ q) × (s.0.now ≡ t.0.now)
 put_cells_determined κs a r q s t h k = determined h k
+
+pub reason_determined : (κs a : _) (r q : ℕ) (s t : _) → reason.Post κs a r s → reason.Post κs a q t → r ≡ q
+reason_determined κs a r q s t h k = h ∙ sym k

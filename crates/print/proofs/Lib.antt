@@ -1,4 +1,4 @@
--- The laws of `print`: Determined for the reader, Rows and Zeros for the proofs here and above.
+-- The laws of `print`: Determined for the reader, Rows and Noughts for the proofs here and above.
 pub mod Rows
-pub mod Zeros
+pub mod Noughts
 pub mod Determined

@@ -1,4 +1,5 @@
 -- The definitions of `print`.
 pub mod Lines
 pub mod Rows
+pub mod Told
 pub mod Zeros

@@ -1,6 +1,7 @@
 -- The store that a program starts on.
-use Rattle.std.specs.Prelude.{ℕ, List, ℤ, pos, replicate}
+use Rattle.std.specs.Prelude.{ℕ, List, ℤ, pos}
+use Rattle.words.specs.Zeros.{copies}
 
--- So many zeros, under a name that stays shut.
-unfoldable pub noughts : ℕ → List ℤ
-noughts n = replicate n (pos 0)
+-- So many zeros.
+abbrev pub noughts : ℕ → List ℤ
+noughts n = copies n (pos 0)

@@ -3,7 +3,10 @@
 
 ghost use Rattle.std.specs.Prelude.{◌≡◌, min};
 ghost use Rattle.print.specs.Rows.{put_all, after_all};
+ghost use Rattle.print.specs.Told.{reason_of};
 ghost use Rattle.print.specs.Lines.{pair, refused_line, steps_line, at_line, frame_line, frame_lines, cell_line, shown, cell_lines, accepted_line};
+
+use refusals::Refusal;
 
 // Room for every text of `run` and `bench`: a place in at most 50 bytes, 1,104 frames and 2,048 cells in at most 48 each.
 pub const TEXT: usize = 151346;
@@ -17,7 +20,18 @@ const DOWN: u8 = 0;
 // A cell that holds it gets no line.
 const UNSET: i32 = 0;
 
+// The number of how a move ended: 0 where it was made.
+pub fn reason(told: Result<(), Refusal>) -> u8
+    ensures { result ≡ reason_of told }
+{
+    match told {
+        Ok(()) => 0,
+        Err(refusal) => refusal.reason.number(),
+    }
+}
+
 // Two numbers with words before, between and after them.
+// Stays: (a) fixed memory: each of these writes into a lent buffer at a position; a writer with both would say the same of its fields.
 fn put_pair(
     buf: &mut [u8],
     at: usize,
@@ -37,6 +51,7 @@ fn put_pair(
     words::put_bytes(buf, l, end)
 }
 
+// Stays: (a) refusals by their numbers here and in `put_steps`, as the two clauses have them.
 // `refused N record R` for the numbers 1 to 8, else `refused N`
 pub fn put_refused(buf: &mut [u8], at: usize, number: u8, label: usize) -> usize
     ensures value { result ≡ after_all buf.old at (refused_line number label) }
@@ -110,6 +125,7 @@ pub fn put_accepted(
 }
 
 // The frames in use, innermost first; more than 1,104 are counted as so many.
+// Stays: (a) slots and their count, as `Place` has them, which C has too.
 pub fn put_frames(
     buf: &mut [u8],
     at: usize,
@@ -120,19 +136,11 @@ pub fn put_frames(
     ensures value { result ≡ after_all buf.old at (frame_lines (min count 1104) kinds.now labels.now) }
     ensures buf_after { buf.new ≡ put_all buf.old at (frame_lines (min count 1104) kinds.now labels.now) }
 {
-    let mut i = used(count);
     let mut next = at;
-    while i > 0 {
-        i -= 1;
+    for i in (0..count.min(kinds.len())).rev() {
         next = put_frame(buf, next, kinds[i], labels[i]);
     }
     next
-}
-
-fn used(count: usize) -> usize
-    ensures { result ≡ min count 1104 }
-{
-    if count < 1104 { count } else { 1104 }
 }
 
 fn put_frame(buf: &mut [u8], at: usize, kind: u16, label: u16) -> usize
@@ -140,13 +148,6 @@ fn put_frame(buf: &mut [u8], at: usize, kind: u16, label: u16) -> usize
     ensures buf_after { buf.new ≡ put_all buf.old at (frame_line kind label) }
 {
     put_pair(buf, at, b"frame ", kind as u64, b" ", label as u64, b"\n")
-}
-
-// An i32 as an i64.
-fn wide(v: i32) -> i64
-    ensures { result ≡ v }
-{
-    v as i64
 }
 
 // `cell I V`; nothing for a cell that is 0
@@ -157,17 +158,17 @@ fn put_cell(buf: &mut [u8], at: usize, i: usize, v: i32) -> usize
     if v == UNSET {
         return at;
     }
-    put_value(buf, at, i, wide(v))
+    put_value(buf, at, i, v)
 }
 
-fn put_value(buf: &mut [u8], at: usize, i: usize, v: i64) -> usize
+fn put_value(buf: &mut [u8], at: usize, i: usize, v: i32) -> usize
     ensures value { result ≡ after_all buf.old at (cell_line i v) }
     ensures buf_after { buf.new ≡ put_all buf.old at (cell_line i v) }
 {
     let j = words::put_bytes(buf, at, b"cell ");
     let k = words::put_decimal(buf, j, i as u64);
     let l = words::put_bytes(buf, k, b" ");
-    let m = words::put_signed(buf, l, v);
+    let m = words::put_signed(buf, l, i64::from(v));
     words::put_bytes(buf, m, b"\n")
 }
 
@@ -176,11 +177,9 @@ pub fn put_cells(buf: &mut [u8], at: usize, store: &[i32]) -> usize
     ensures value { result ≡ after_all buf.old at (cell_lines 0 store.now) }
     ensures buf_after { buf.new ≡ put_all buf.old at (cell_lines 0 store.now) }
 {
-    let mut i: usize = 0;
     let mut next = at;
-    while i < store.len() {
-        next = put_cell(buf, next, i, store[i]);
-        i += 1;
+    for (i, v) in store.iter().enumerate() {
+        next = put_cell(buf, next, i, *v);
     }
     next
 }

@@ -1,14 +1,31 @@
--- The loops that fill the table of the arrays: what is left to put gives the whole.
-use mathlib.Core.Path.{◌≡◌, sym, ◌∙◌}
-use mathlib.Core.List.{List, [], ◌∷◌}
-use Prim.Native.Nat.{ℕ, suc, ◌+◌, ◌*◌, ◌-◌, ◌%◌, ◌≤◌, ◌<◌}
-use native.Mathlib.Numerals.{add-one}
-use native.Mathlib.Omega.{arith}
-use lib.ListN.{set, replicate}
-use lib.Seq.{sets}
+-- The loop that fills the table of the arrays: what is left to put gives the whole. Assumes nothing.
+use Rattle.std.proofs.Common.{ℕ, suc, ◌+◌, ◌*◌, ◌-◌, ◌%◌, ◌≤◌, ◌<◌, ◌≢◌, ◌≡◌, refl, sym, ap, ◌∙◌, List, [], ◌∷◌, length, set, arith, add-one}
+use Rattle.std.proofs.Math.ListN.{replicate}
+use Rattle.std.proofs.lemmas.List.{set_comm}
+use Rattle.std.proofs.lemmas.List.Edits.{sets}
 use Rattle.records.specs.Faults.{word}
 use Rattle.records.specs.Reading.{shorts_at}
+use Rattle.records.proofs.Bytes.{length_shorts}
 use Rattle.program.specs.Arrays.{array_count, starts_from, arrays_at}
+
+length_starts : (n : ℕ) (ls : List ℕ) → length (starts_from n ls) ≡ length ls
+unfolding starts_from
+length_starts n [] = refl
+length_starts n (l ∷ ls) = ap suc (length_starts (n + l) ls)
+
+-- A store behind others may as well come first.
+apart : (vs t : List ℕ) (k j x : ℕ) → k + length vs ≤ j → set (sets t k vs) j x ≡ sets (set t j x) k vs
+apart [] t k j x h = refl
+apart (v ∷ vs) t k j x h =
+    let other : k ≢ j = omega arith in
+    apart vs (set t k v) (suc k) j x (omega arith) ∙ ap (λ u. sets u (suc k) vs) (set_comm t k j v x other)
+
+-- One array is put, its start and its length.
+one_put : (t : List ℕ) (i a x : ℕ) (ss ls : List ℕ) → suc i + length ss ≤ 16 + i
+    → sets (sets t i (a ∷ ss)) (16 + i) (x ∷ ls) ≡ sets (sets (set (set t i a) (16 + i) x) (i + 1) ss) (16 + (i + 1)) ls
+one_put t i a x ss ls h =
+    let z : suc (16 + i) ≡ 16 + (i + 1) = omega arith in
+    ap (λ u. sets u (suc (16 + i)) ls) (apart ss (set t i a) (suc i) (16 + i) x h) ∙ rw (z, add-one i)
 
 module _ (f : List ℕ) (n : ℕ) where
   -- the lengths that are left, i being put
@@ -29,38 +46,23 @@ module _ (f : List ℕ) (n : ℕ) where
   unfolding shorts_at
   left_none i h = let z : n - i ≡ 0 = omega arith in rw z
 
-  -- all the starts put into t, all the lengths put into t
-  abbrev pub starts : List ℕ → List ℕ
-  starts t = sets t 0 (starts_from (word f 4) (shorts_at f 8 n))
+  -- all put into the table t, the next start being s
+  abbrev pub filled : List ℕ → ℕ → ℕ → List ℕ
+  filled t s i = sets (sets t i (starts_from s (left i))) (16 + i) (left i)
 
-  abbrev pub lengths : List ℕ → List ℕ
-  lengths t = sets t 16 (shorts_at f 8 n)
+  pub fill_first : (s : ℕ) → n ≡ array_count f → s ≡ word f 4 → arrays_at f ≡ filled (replicate 32 0) s 0
+  unfolding arrays_at
+  fill_first s e d = rw (left_all, e, d)
 
-  module _ (t₀ t : List ℕ) (i : ℕ) where
-    pub start_done : (s : ℕ) → n ≤ i → starts t₀ ≡ sets t i (starts_from s (left i)) → t ≡ starts t₀
+  module _ (t : List ℕ) (s i : ℕ) where
+    pub fill_more : (x : ℕ) → n ≤ 16 → i < n → x ≡ word f (8 + 2 * i) → arrays_at f ≡ filled t s i
+        → arrays_at f ≡ filled (set (set t i (s % 65536)) (16 + i) x) (s + x) (i + 1)
     unfolding starts_from
-    start_done s h e = sym (e ∙ rw (left_none i h))
+    fill_more x m h e p =
+        let on = left (i + 1) in
+        let room : suc i + length (starts_from (s + x) on) ≤ 16 + i = omega (arith, length_starts (s + x) on, length_shorts f (n - (i + 1)) (8 + 2 * (i + 1))) in
+        p ∙ (rw (left_more i h, ← e) (one_put t i (s % 65536) x (starts_from (s + x) on) on room))
 
-    pub start_more : (s x : ℕ) → i < n → x ≡ word f (8 + 2 * i) → starts t₀ ≡ sets t i (starts_from s (left i))
-        → starts t₀ ≡ sets (set t i (s % 65536)) (i + 1) (starts_from (s + x) (left (i + 1)))
+    pub fill_done : n ≤ i → arrays_at f ≡ filled t s i → t ≡ arrays_at f
     unfolding starts_from
-    start_more s x h e p = p ∙ rw (left_more i h, add-one, e)
-
-    pub length_done : n ≤ i → lengths t₀ ≡ sets t (16 + i) (left i) → t ≡ lengths t₀
-    length_done h e = sym (e ∙ rw (left_none i h))
-
-    pub length_more : (x : ℕ) → i < n → x ≡ word f (8 + 2 * i) → lengths t₀ ≡ sets t (16 + i) (left i)
-        → lengths t₀ ≡ sets (set t (16 + i) x) (16 + (i + 1)) (left (i + 1))
-    length_more x h e p =
-        let z : suc (16 + i) ≡ 16 + (i + 1) = omega arith in
-        p ∙ rw (left_more i h, ← z, e)
-
-  pub start_first : (t : List ℕ) (s : ℕ) → s ≡ word f 4 → starts t ≡ sets t 0 (starts_from s (left 0))
-  start_first t s e = rw (left_all, e)
-
-  pub length_first : (t : List ℕ) → lengths t ≡ sets t (16 + 0) (left 0)
-  length_first t = rw left_all
-
-pub arrays_whole : (f : List ℕ) (n : ℕ) (t u : List ℕ) → t ≡ starts f n (replicate 32 0) → u ≡ lengths f n t → n ≡ array_count f → u ≡ arrays_at f
-unfolding arrays_at
-arrays_whole f n t u p q e = rw (q, p, e)
+    fill_done h p = sym (p ∙ rw (left_none i h))

@@ -1,65 +1,50 @@
 -- The answers of the check, case by case: what each `return` knows gives what the definition says.
-use mathlib.Core.Path.{◌≡◌}
-use mathlib.Core.List.{List}
-use mathlib.Core.Bool.{Bool, true, false}
-use Prim.Native.Nat.{ℕ, ◌≤◌, ◌<◌}
-use lib.ListN.{length}
+use Rattle.std.proofs.Common.{ℕ, ◌≤◌, ◌<◌, ◌≡◌, List, Some, None, Result, Ok, Err, is_ok, true, false, refl, length}
 use borrow.Author.Tests.{lt-ltb, le-ltb}
+use Rattle.refusals.specs.declared.Refusal.{Refusal}
+use Rattle.refusals.specs.declared.Reason.TheVariants.{TooLong, Misplaced, NotThere, OwnName}
 use Rattle.records.specs.Faults.{word}
-use Rattle.names.specs.Names.{passes, first_not}
 use Rattle.records.specs.Walk.{offsets, kinds_at}
 use Rattle.records.specs.Reading.{walk_of}
-use Rattle.order.specs.Order.{order_of}
-use Rattle.program.specs.Check.{cells_of, named, after_own, after_there, after_order, after_walk, check_of}
 use Rattle.records.specs.declared.Walked.{Walked}
-use Rattle.records.specs.declared.Walked.TheVariants.{Fine, Faulty}
-use Rattle.order.specs.declared.Placed.{Placed}
-use Rattle.order.specs.declared.Placed.TheVariants.{InOrder, Misplaced}
-use Rattle.names.specs.declared.First.{First}
-use Rattle.names.specs.declared.First.TheVariants.{Nowhere, At}
-use Rattle.program.specs.declared.Checked.{Checked}
-use Rattle.program.specs.declared.Checked.TheVariants.{Accepted, Refused}
+use Rattle.order.specs.Order.{order_of}
+use Rattle.names.specs.Names.{first_unknown, first_own}
+use Rattle.program.specs.Check.{scalars_of, cells_of, refused, check_of}
 
 module _ (f : List ℕ) where
-  pub named_is : (own : Bool) (p : ℕ) (first : First) (v n : ℕ) → first ≡ first_not (passes own f v n p) (offsets f) → v ≡ word f 4 → n ≡ word f 6 → first ≡ named own f p
-  named_is own p first v n e x y = rw (e, x, y)
-
-  module _ (r p : ℕ) where
-    module _ (first : First) where
-      pub own_at : (k : ℕ) → first ≡ At k → Refused 8 k ≡ after_own f r p first
-      own_at k e = rw e
-
-      pub own_nowhere : (c : ℕ) → first ≡ Nowhere → c ≡ cells_of f → Accepted r p c ≡ after_own f r p first
-      own_nowhere c e d = rw (e, d)
-
-      pub there_at_lem : (k : ℕ) → first ≡ At k → Refused 7 k ≡ after_there f r p first
-      there_at_lem k e = rw e
-
-      pub there_nowhere : (own : First) (a : Checked) → first ≡ Nowhere → a ≡ after_own f r p own → own ≡ named true f p → a ≡ after_there f r p first
-      there_nowhere own a e q d = rw (e, q, d)
-
-    module _ (placed : Placed) where
-      pub order_at : (k : ℕ) → placed ≡ Misplaced k → Refused 6 k ≡ after_order f r p placed
-      order_at k e = rw e
-
-      pub order_right : (first : First) (a : Checked) → placed ≡ InOrder → a ≡ after_there f r p first → first ≡ named false f p → a ≡ after_order f r p placed
-      order_right first a e q d = rw (e, q, d)
-
-  module _ (w : Walked) where
-    pub walk_at : (n k : ℕ) → w ≡ Faulty n k → Refused n k ≡ after_walk f w
-    walk_at n k e = rw e
-
-    pub walk_right : (r p : ℕ) (placed : Placed) (a : Checked) → w ≡ Fine r p → a ≡ after_order f r p placed
-        → placed ≡ order_of (kinds_at f (offsets f)) → a ≡ after_walk f w
-    walk_right r p placed a e q d = rw (e, q, d)
-
-  pub check_long : 32768 < length f → Refused 1 0 ≡ check_of f
+  pub too_long : 32768 < length f → refused TooLong 0 ≡ check_of f
   unfolding check_of
-  check_long h = rw (lt-ltb 32768 (length f) h)
+  too_long h = rw (lt-ltb 32768 (length f) h)
 
-  pub check_short : (w : Walked) (a : Checked) → length f ≤ 32768 → a ≡ after_walk f w → w ≡ walk_of f → a ≡ check_of f
-  unfolding check_of
-  check_short w a h q d = rw (le-ltb 32768 (length f) h, q, d)
+  module _ (short : length f ≤ 32768) where
+    pub faulty : (r : Refusal) → walk_of f ≡ Err r → Err r ≡ check_of f
+    unfolding check_of
+    faulty r e = rw (le-ltb 32768 (length f) short, e)
 
-pub ruleset answers =
-    (own_at, own_nowhere, there_at_lem, there_nowhere, order_at, order_right, walk_at, walk_right, check_long, check_short)
+    module _ (w : Walked) (walked : walk_of f ≡ Ok w) where
+      pub misplaced : (k : ℕ) → order_of (kinds_at f (offsets f)) ≡ Err k → refused Misplaced k ≡ check_of f
+      unfolding check_of
+      misplaced k e = rw (le-ltb 32768 (length f) short, walked, e)
+
+      module _ (ordered : order_of (kinds_at f (offsets f)) ≡ Ok tt) where
+        pub unknown : (k : ℕ) → first_unknown f (scalars_of f) (word f 6) w.procedures ≡ Some k → refused NotThere k ≡ check_of f
+        unfolding check_of
+        unknown k e = rw (le-ltb 32768 (length f) short, walked, ordered, e)
+
+        module _ (known : first_unknown f (scalars_of f) (word f 6) w.procedures ≡ None) where
+          pub own : (k : ℕ) → first_own f ≡ Some k → refused OwnName k ≡ check_of f
+          unfolding check_of
+          own k e = rw (le-ltb 32768 (length f) short, walked, ordered, known, e)
+
+          pub accepted : first_own f ≡ None → Ok (record { records = w.records; procedures = w.procedures; cells = cells_of f }) ≡ check_of f
+          unfolding check_of
+          accepted e = rw (le-ltb 32768 (length f) short, walked, ordered, known, e)
+
+-- ---- what `map_err` makes of the order
+pub ordered_all : (r : Result (Unit {0}) ℕ) → true ≡ is_ok r → r ≡ Ok tt
+ordered_all (Ok all) e = refl
+ordered_all (Err k) e = cc
+
+pub stuck_at : (r : Result (Unit {0}) ℕ) → false ≡ is_ok r → (k : ℕ) × (r ≡ Err k)
+stuck_at (Ok all) e = cc
+stuck_at (Err k) e = (k, refl)

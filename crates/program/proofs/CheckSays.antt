@@ -14,24 +14,23 @@ use native.Mathlib.Omega.{arith}
 use borrow.Author.Tests.{lt-ltb, le-ltb, ltb-true, ltb-false}
 use lib.Dec.{ltb}
 use lib.ListN.{length, get_or}
+use Rattle.std.specs.Prelude.{Option, Some, None, Result, Ok, Err}
+use Rattle.refusals.specs.Numbers.{number_of}
+use Rattle.refusals.specs.declared.Reason.TheVariants.{TooLong, Misplaced, NotThere, OwnName}
+use Rattle.refusals.specs.declared.Refusal.{Refusal}
 use Rattle.codes.specs.Codes.{AllBytes}
 use Rattle.records.specs.Records.{Record, skip, kind, begins}
 use Rattle.order.specs.Trees.{Stmt, set_s, skip_s, call_s, uncall_s, if_s, from_s, Block, one, ◌then◌, Tree, records_s, records_b, records_p, records_of, procedures, cells, Ordered}
-use Rattle.records.specs.Faults.{Wrong, cut, unknown, malformed, oversize, word, Rows}
+use Rattle.records.specs.Faults.{word, Rows}
 use Rattle.program.specs.Says.{Given, fault, counts, given, All, there_in, Accepts, Says, too_long, in_turn, order, not_there, own_name, accepted}
 use Rattle.records.specs.Walk.{offsets, kinds_at}
 use Rattle.records.specs.Reading.{walk_of, free}
-use Rattle.order.specs.Order.{kinds, order_of}
-use Rattle.names.specs.Names.{passes}
-use Rattle.program.specs.Check.{cells_of, named, after_own, after_there, after_order, after_walk, check_of}
 use Rattle.records.specs.declared.Walked.{Walked}
-use Rattle.records.specs.declared.Walked.TheVariants.{Fine, Faulty}
-use Rattle.order.specs.declared.Placed.{Placed}
-use Rattle.order.specs.declared.Placed.TheVariants.{InOrder, Misplaced}
-use Rattle.names.specs.declared.First.{First}
-use Rattle.names.specs.declared.First.TheVariants.{Nowhere, At}
-use Rattle.program.specs.declared.Checked.{Checked}
-use Rattle.program.specs.declared.Checked.TheVariants.{Accepted, Refused}
+use Rattle.order.specs.Order.{kinds, order_of}
+use Rattle.names.specs.Names.{there_at, free_at, first_unknown, first_own}
+use Rattle.program.specs.Check.{scalars_of, cells_of, refused, after_own, after_there, after_order, after_walk, check_of}
+use Rattle.program.specs.declared.Counts.{Counts}
+use Rattle.program.proofs.Numbers.{numbered, same_number}
 use Rattle.program.proofs.Declared.{Declares, declares}
 use Rattle.records.proofs.Offsets.{kinds_of}
 use Rattle.records.proofs.Walking.{walk_fine, fine_walk, walk_wrong, wrong_walk, rows_unique}
@@ -74,9 +73,13 @@ map_kinds : (rs : List Record) → map kind rs ≡ kinds rs
 map_kinds [] = refl
 map_kinds (r ∷ rs) = ap (◌∷◌ (kind r)) (map_kinds rs)
 
--- the test of a pass, with what the first record declares
-abbrev asks : Bool → List ℕ → ℕ → ℕ → Bool
-asks own f p = passes own f (word f 4) (word f 6) p
+-- the test of refusal 7, with what the first record declares
+abbrev asks : List ℕ → ℕ → ℕ → Bool
+asks f p at = there_at f at (scalars_of f) (word f 6) p
+
+-- the records that the walk counts
+abbrev walked : List Record → Walked
+walked rs = record { records = length rs; procedures = begins rs }
 
 -- ---- the answer after each question, on a row of records
 module _ (f : List ℕ) where
@@ -84,7 +87,7 @@ module _ (f : List ℕ) where
   unfolding check_of
   after_long h = rw (le-ltb 32768 (length f) h)
 
-  too_long_is : 32768 < length f → check_of f ≡ Refused 1 0
+  too_long_is : 32768 < length f → check_of f ≡ refused TooLong 0
   unfolding check_of
   too_long_is h = rw (lt-ltb 32768 (length f) h)
 
@@ -95,7 +98,7 @@ module _ (f : List ℕ) (B : AllBytes f) (rs : List Record) (R : Rows f rs) wher
   kinds_are : kinds_at f (offsets f) ≡ kinds rs
   kinds_are = kinds_of f rs small R.bytes ∙ map_kinds rs
 
-  after_walk_lem : check_of f ≡ after_order f (length rs) (begins rs) (order_of (kinds rs))
+  after_walk_lem : check_of f ≡ after_order f (walked rs) (order_of (kinds rs))
   after_walk_lem = after_long f R.short ∙ rw (fine_walk f B small rs R.bytes R.fine, kinds_are)
 
   module _ (t : Tree) (O : Ordered rs t) where
@@ -109,41 +112,37 @@ module _ (f : List ℕ) (B : AllBytes f) (rs : List Record) (R : Rows f rs) wher
     unfolding cells_of
     cells_are = rw (declared.scalars_are, declared.arrays_are, declared.lengths_are)
 
-    same_there : (j : ℕ) → j < length rs → asks false f (begins rs) (get_or (offsets f) j 0) ≡ there_in t (get_or rs j skip)
+    same_there : (j : ℕ) → j < length rs → asks f (begins rs) (get_or (offsets f) j 0) ≡ there_in t (get_or rs j skip)
     same_there j h =
         there_is f rs R j h (word f 4) (word f 6) (begins rs)
         ∙ rw (declared.scalars_are, declared.arrays_are, p_is)
 
-    same_free : (j : ℕ) → j < length rs → asks true f (begins rs) (get_or (offsets f) j 0) ≡ free (get_or rs j skip)
+    same_free : (j : ℕ) → j < length rs → free_at f (get_or (offsets f) j 0) ≡ free (get_or rs j skip)
     same_free j h = free_is f rs R j h
 
-    after_order_lem : check_of f ≡ after_there f (length rs) (begins rs) (named false f (begins rs))
+    after_order_lem : check_of f ≡ after_there f (walked rs) (first_unknown f (scalars_of f) (word f 6) (begins rs))
     after_order_lem = after_walk_lem ∙ rw (ordered_order rs t O)
 
-    after_there_lem : All (there_in t) rs → check_of f ≡ after_own f (length rs) (begins rs) (named true f (begins rs))
-    after_there_lem A = after_order_lem ∙ rw (first_none f rs R (asks false f (begins rs)) (there_in t) same_there A)
+    after_there_lem : All (there_in t) rs → check_of f ≡ after_own f (walked rs) (first_own f)
+    after_there_lem A = after_order_lem ∙ rw (first_none f rs R (asks f (begins rs)) (there_in t) same_there A)
 
-    after_all_lem : All (there_in t) rs → All free rs → check_of f ≡ Accepted (length (records_of t)) (length (procedures t)) (cells t)
-    after_all_lem A L = after_there_lem A ∙ rw (first_none f rs R (asks true f (begins rs)) free same_free L, cells_are, p_is, O.records)
+    after_all_lem : All (there_in t) rs → All free rs → check_of f ≡ Ok (record { records = length (records_of t); procedures = length (procedures t); cells = cells t })
+    after_all_lem A L = after_there_lem A ∙ rw (first_none f rs R (free_at f) free same_free L, cells_are, p_is, O.records)
 
 -- ---- an answer that is said is that of one case
-wrong_some : {k b n : ℕ} {rest : List ℕ} → Wrong k b rest n → 0 < n
-wrong_some (cut c) = omega arith
-wrong_some (unknown h c u) = omega arith
-wrong_some (malformed h c u m) = omega arith
-wrong_some (oversize r h c F s o) = omega arith
-
-given_one : (a b : Checked) → ((given a).number ≡ 0 → 0 < (given a).records) → given a ≡ given b → a ≡ b
-given_one (Accepted r p c) (Accepted r' p' c') h e = λ i. Accepted (e i).records (e i).procedures (e i).cells
-given_one (Accepted r p c) (Refused n k) h e = let z : r ≡ 0 = ap (λ (g : Given). g.records) e in absurd (omega (arith, h refl))
-given_one (Refused n k) (Accepted r p c) h e = absurd (omega (arith, h (ap (λ (g : Given). g.number) e)))
-given_one (Refused n k) (Refused n' k') h e = λ i. Refused (e i).number (e i).label
+given_one : (a b : Result Counts Refusal) → ((given a).number ≡ 0 → 0 < (given a).records) → given a ≡ given b → a ≡ b
+given_one (Ok c) (Ok d) h e = λ i. Ok (record { records = (e i).records; procedures = (e i).procedures; cells = (e i).cells })
+given_one (Ok c) (Err r) h e = absurd (omega (arith, numbered r.reason, ap (λ (g : Given). g.number) e))
+given_one (Err r) (Ok c) h e = absurd (omega (arith, numbered r.reason, ap (λ (g : Given). g.number) e))
+given_one (Err r) (Err s) h e =
+    let reason = same_number r.reason s.reason (ap (λ (g : Given). g.number) e) in
+    λ i. Err (record { reason = reason i; label = (e i).label })
 
 module _ (f : List ℕ) where
   some_record : (g : Given) → Says f g → g.number ≡ 0 → 0 < g.records
   unfolding records_of
   some_record g (too_long h) e = absurd (omega arith)
-  some_record g (in_turn h rs rest d F w) e = absurd (omega (arith, wrong_some w))
+  some_record g (in_turn {r = r} h rs rest d F w) e = absurd (omega (arith, numbered r))
   some_record g (order rs R m) e = absurd (omega arith)
   some_record g (not_there rs t R O n) e = absurd (omega arith)
   some_record g (own_name rs t R O A n) e = absurd (omega arith)
@@ -166,7 +165,7 @@ module _ (f : List ℕ) where
 
   of_says : (g : Given) (r p c : ℕ) → Says f g → g ≡ counts r p c → TreeOf r p c
   of_says g r p c (too_long h) e = absurd (omega (arith, ap (λ (g : Given). g.number) e))
-  of_says g r p c (in_turn h rs rest d F w) e = absurd (omega (arith, wrong_some w, ap (λ (g : Given). g.number) e))
+  of_says g r p c (in_turn {r = m} h rs rest d F w) e = absurd (omega (arith, numbered m, ap (λ (g : Given). g.number) e))
   of_says g r p c (order rs R m) e = absurd (omega (arith, ap (λ (g : Given). g.number) e))
   of_says g r p c (not_there rs t R O n) e = absurd (omega (arith, ap (λ (g : Given). g.number) e))
   of_says g r p c (own_name rs t R O A n) e = absurd (omega (arith, ap (λ (g : Given). g.number) e))
@@ -186,40 +185,40 @@ module _ (f : List ℕ) where
   )
 
   -- what a caller of the check knows where it accepts, and where it refuses
-  pub accepted_of : (a : Checked) (r p c : ℕ) → Says f (given a) → a ≡ Accepted r p c → TreeOf r p c
-  accepted_of a r p c s e = of_says (given a) r p c s (ap given e)
+  pub accepted_of : (a : Result Counts Refusal) (c : Counts) → Says f (given a) → a ≡ Ok c → TreeOf c.records c.procedures c.cells
+  accepted_of a c s e = of_says (given a) c.records c.procedures c.cells s (ap given e)
 
-  pub refused_of_lem : (a : Checked) (n k : ℕ) → Says f (given a) → a ≡ Refused n k → Says f (fault n k)
-  refused_of_lem a n k s e = subst (λ a. Says f (given a)) e s
+  pub refused_of_lem : (a : Result Counts Refusal) (r : Refusal) → Says f (given a) → a ≡ Err r → Says f (fault (number_of r.reason) r.label)
+  refused_of_lem a r s e = subst (λ a. Says f (given a)) e s
 
 -- ---- the answer is what is said
 module _ (f : List ℕ) (B : AllBytes f) where
-  gives : (a : Checked) → check_of f ≡ a → given a ≡ given (check_of f)
+  gives : (a : Result Counts Refusal) → check_of f ≡ a → given a ≡ given (check_of f)
   gives a e = ap given (sym e)
 
   pub only : (g : Given) → Says f g → g ≡ given (check_of f)
-  only g (too_long h) = gives (Refused 1 0) (too_long_is f h)
-  only g (in_turn {n = n} h rs rest e F w) = gives (Refused n (length rs)) (after_long f h ∙ rw (wrong_walk f B (omega arith) n rs rest e F w))
-  only g (order {k = k} rs R m) = gives (Refused 6 k) (after_walk_lem f B rs R ∙ rw (misplaced_order rs k m))
+  only g (too_long h) = gives (refused TooLong 0) (too_long_is f h)
+  only g (in_turn {r = r} h rs rest e F w) = gives (refused r (length rs)) (after_long f h ∙ rw (wrong_walk f B (omega arith) r rs rest e F w))
+  only g (order {k = k} rs R m) = gives (refused Misplaced k) (after_walk_lem f B rs R ∙ rw (misplaced_order rs k m))
   only g (not_there {k = k} rs t R O n) =
-      gives (Refused 7 k) (after_order_lem f B rs R t O ∙ rw (first_at_lem f rs R (asks false f (begins rs)) (there_in t) (same_there f B rs R t O) k n))
+      gives (refused NotThere k) (after_order_lem f B rs R t O ∙ rw (first_at_lem f rs R (asks f (begins rs)) (there_in t) (same_there f B rs R t O) k n))
   only g (own_name {k = k} rs t R O A n) =
-      gives (Refused 8 k) (after_there_lem f B rs R t O A ∙ rw (first_at_lem f rs R (asks true f (begins rs)) free (same_free f B rs R t O) k n))
+      gives (refused OwnName k) (after_there_lem f B rs R t O A ∙ rw (first_at_lem f rs R (free_at f) free (same_free f B rs R t O) k n))
   only g (accepted t A) = gives _ (after_all_lem f B (records_of t) A.rows t A.ordered A.numbers A.owns)
 
   pub determined : (g h : Given) → Says f g → Says f h → g ≡ h
   determined g h x y = only g x ∙ sym (only h y)
 
-  pub says_only : (a : Checked) → Says f (given a) → a ≡ check_of f
+  pub says_only : (a : Result Counts Refusal) → Says f (given a) → a ≡ check_of f
   says_only a s = given_one a (check_of f) (some_record f (given a) s) (only (given a) s)
 
   -- each question in turn, by what was found
   module _ (rs : List Record) (R : Rows f rs) where
     module _ (t : Tree) (O : Ordered rs t) where
-      from_own : All (there_in t) rs → (x : First) → named true f (begins rs) ≡ x → Says f (given (after_own f (length rs) (begins rs) x))
-      from_own A (At k) e = own_name rs t R O A (at_first f rs R (asks true f (begins rs)) free (same_free f B rs R t O) k e)
-      from_own A Nowhere e =
-          let L = none_first f rs R (asks true f (begins rs)) free (same_free f B rs R t O) e in
+      from_own : All (there_in t) rs → (x : Option ℕ) → first_own f ≡ x → Says f (given (after_own f (walked rs) x))
+      from_own A (Some k) e = own_name rs t R O A (at_first f rs R (free_at f) free (same_free f B rs R t O) k e)
+      from_own A None e =
+          let L = none_first f rs R (free_at f) free (same_free f B rs R t O) e in
           rw (cells_are f B rs R t O, p_is f B rs R t O, ← O.records)
           (accepted t (record {
             rows = rw O.records R;
@@ -228,34 +227,34 @@ module _ (f : List ℕ) (B : AllBytes f) where
             owns = rw O.records L;
           }))
 
-      from_there : (x : First) → named false f (begins rs) ≡ x → Says f (given (after_there f (length rs) (begins rs) x))
-      from_there (At k) e = not_there rs t R O (at_first f rs R (asks false f (begins rs)) (there_in t) (same_there f B rs R t O) k e)
-      from_there Nowhere e = from_own (none_first f rs R (asks false f (begins rs)) (there_in t) (same_there f B rs R t O) e) (named true f (begins rs)) refl
+      from_there : (x : Option ℕ) → first_unknown f (scalars_of f) (word f 6) (begins rs) ≡ x → Says f (given (after_there f (walked rs) x))
+      from_there (Some k) e = not_there rs t R O (at_first f rs R (asks f (begins rs)) (there_in t) (same_there f B rs R t O) k e)
+      from_there None e = from_own (none_first f rs R (asks f (begins rs)) (there_in t) (same_there f B rs R t O) e) (first_own f) refl
 
-    from_order : (x : Placed) → order_of (kinds rs) ≡ x → Says f (given (after_order f (length rs) (begins rs) x))
-    from_order (Misplaced k) e = order rs R (order_misplaced rs k e)
-    from_order InOrder e = let w = order_ordered rs e in from_there w.0 w.1 (named false f (begins rs)) refl
+    from_order : (x : Result (Unit {0}) ℕ) → order_of (kinds rs) ≡ x → Says f (given (after_order f (walked rs) x))
+    from_order (Err k) e = order rs R (order_misplaced rs k e)
+    from_order (Ok all) e = let w = order_ordered rs e in from_there w.0 w.1 (first_unknown f (scalars_of f) (word f 6) (begins rs)) refl
 
-  from_rows : (rs : List Record) (r p : ℕ) → Rows f rs → r ≡ length rs → p ≡ begins rs → Says f (given (after_order f r p (order_of (kinds_at f (offsets f)))))
-  from_rows rs r p R x y = rw (x, y, kinds_are f B rs R) (from_order rs R (order_of (kinds rs)) refl)
+  from_rows : (rs : List Record) (w : Walked) → Rows f rs → w ≡ walked rs → Says f (given (after_order f w (order_of (kinds_at f (offsets f)))))
+  from_rows rs w R x = rw (x, kinds_are f B rs R) (from_order rs R (order_of (kinds rs)) refl)
 
-  from_walk : length f ≤ 32768 → (w : Walked) → walk_of f ≡ w → Says f (given (after_walk f w))
-  from_walk h (Faulty n k) e =
-      let w = walk_wrong f B n k e in
+  from_walk : length f ≤ 32768 → (w : Result Walked Refusal) → walk_of f ≡ w → Says f (given (after_walk f w))
+  from_walk h (Err r) e =
+      let w = walk_wrong f B r.reason r.label e in
       rw w.4 (in_turn h w.0 w.1 w.2 w.3 w.5)
-  from_walk h (Fine r p) e =
-      let w = walk_fine f B r p e in
-      from_rows w.0 r p (record { short = h; bytes = w.1; fine = w.2 }) w.3 w.4
+  from_walk h (Ok n) e =
+      let w = walk_fine f B n.records n.procedures e in
+      from_rows w.0 n (record { short = h; bytes = w.1; fine = w.2 }) (λ i. record { records = w.3 i; procedures = w.4 i })
 
   pub says : Says f (given (check_of f))
   unfolding check_of
   says = go (ltb 32768 (length f)) refl
     where
-      go : (b : Bool) → ltb 32768 (length f) ≡ b → Says f (given (cond b (Refused 1 0) (after_walk f (walk_of f))))
+      go : (b : Bool) → ltb 32768 (length f) ≡ b → Says f (given (cond b (refused TooLong 0) (after_walk f (walk_of f))))
       go true e = too_long (ltb-true 32768 (length f) e)
       go false e = from_walk (ltb-false 32768 (length f) e) (walk_of f) refl
 
-  pub says_of : (a : Checked) → a ≡ check_of f → Says f (given a)
+  pub says_of : (a : Result Counts Refusal) → a ≡ check_of f → Says f (given a)
   says_of a e = subst (λ a. Says f (given a)) (sym e) says
 
   -- ---- accepted files are those of trees

@@ -4,6 +4,7 @@ pub mod Passes
 pub mod CellSums
 pub mod CheckCases
 pub mod Declared
+pub mod Numbers
 pub mod CheckSays
 pub mod Few
 pub mod ArrayLoops

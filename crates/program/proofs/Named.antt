@@ -7,13 +7,15 @@ use lib.ListN.{length, get_or, drop}
 use lib.Dec.{ltb, eqb}
 use Rattle.codes.proofs.Rows.{byte_of, short_back}
 use Rattle.expr.specs.Tree.{Expr, encode, known}
-use Rattle.expr.specs.Agreement.{occurs, scalar, array}
+use Rattle.expr.specs.Agreement.{occurs}
+use Rattle.expr.specs.declared.Name.TheVariants.{Scalar, Array}
 use Rattle.expr.specs.Bytes.{Stands, Got, whole}
 use Rattle.expr.proofs.Format.{got, whole_of}
 use Rattle.records.specs.Records.{cell, entry, Record, names, begin, end, assign, if, else, fi, from, loop, until, call, uncall, skip, kind, body, encode_record, Plain, Formed}
 use Rattle.records.specs.Faults.{word}
 use Rattle.records.specs.Walk.{kind_at}
-use Rattle.records.specs.Reading.{tests, calls, free, there}
+use Rattle.records.specs.Kinds.{tests, calls}
+use Rattle.records.specs.Reading.{free, there}
 use Rattle.names.specs.Names.{expr_at, past, there_scalar, there_array, there_call, there_at, free_scalar, free_array, free_at}
 use Rattle.records.proofs.Bytes.{front_rest, after}
 use Rattle.records.proofs.Offsets.{kind_is}
@@ -57,7 +59,7 @@ module _ (f : List ℕ) where
       unfolding there_at there_scalar
       there_cell v a p = rw (K, z, w, tree_is (at + 8) e y pe D)
 
-      free_cell : free_at f at ≡ not (occurs (scalar x) e)
+      free_cell : free_at f at ≡ not (occurs (Scalar x) e)
       unfolding free_at free_scalar
       free_cell = rw (K, z, w, tree_is (at + 8) e y pe D)
 
@@ -69,7 +71,7 @@ module _ (f : List ℕ) where
       unfolding there_at there_array
       there_entry v a p = rw (K, z, w, tree_is (at + 8) i _ pi D, past_is (at + 8) i _ pi D, E)
 
-      free_entry : free_at f at ≡ not (occurs (array x) i || occurs (array x) e)
+      free_entry : free_at f at ≡ not (occurs (Array x) i || occurs (Array x) e)
       unfolding free_at free_array
       free_entry = rw (K, z, w, tree_is (at + 8) i _ pi D, past_is (at + 8) i _ pi D, E)
 

@@ -8,24 +8,26 @@ use Prim.Native.Nat.{ℕ, zero, suc}
 use native.Mathlib.Omega.{arith}
 use borrow.Author.Tests.{ltb-true}
 use lib.Dec.{ltb}
-use lib.ListN.{get_or}
 use lib.IntN.{ℤ, pos, neg_ℤ}
 use Rattle.values.specs.Values.{is, apply_op, wrap, floor_div, floor_mod}
 use Rattle.codes.specs.Codes.{AllBytes}
 use Rattle.expr.specs.Tree.{any_name, Expr, con, var, bin, Fault, div_by_zero, fault_number, stop, eval, known, encode}
 use Rattle.expr.specs.Agreement.{occurs}
 use Rattle.expr.specs.Bytes.{whole, within, up_to, layer}
-use Rattle.expr.proofs.Layer.{and_true}
+use Rattle.std.proofs.lemmas.Bool.{and_parts}
 use Rattle.records.specs.Records.{cell, entry, names, begin, end, assign, kind, body, encode_record, bytes_of, sum}
 use Rattle.records.specs.Walk.{offsets, offsets_from, kinds_at}
-use Rattle.records.specs.Reading.{shorts_at, walk_of, walk_from, wrong_at, cut_at, unknown_at, sized_as, names_fit, lengths_fit, formed_as, set_body}
-use Rattle.order.specs.Trees.{skip_s, if_s, Block, one, Tree, records_s, records_p, records_of}
+use Rattle.records.specs.Reading.{shorts_at, walk_of, walk_over, wrong_at, cut_at, unknown_at, sized_as, names_fit, lengths_fit, formed_as, set_body}
+use Rattle.order.specs.Trees.{skip_s, if_s, Block, one, records_s, records_p, records_of}
+use Rattle.records.specs.Kinds.{kind_of}
 use Rattle.order.specs.Order.{order_of, order_from, next}
-use Rattle.names.specs.Names.{there_scalar, there_array, there_call, there_at, free_scalar, free_array, free_at, first_from}
-use Rattle.program.specs.Check.{check_of, cells_of}
+use Rattle.names.specs.Names.{there_scalar, there_array, there_call, there_at, free_scalar, free_array, free_at}
+use Rattle.program.specs.Check.{refused, check_of, cells_of}
 use Rattle.program.specs.Says.{Given, fault, counts, given, Says}
-use Rattle.program.specs.declared.Checked.{Checked}
-use Rattle.program.specs.declared.Checked.TheVariants.{Accepted, Refused}
+use Rattle.std.specs.Prelude.{Result, Ok}
+use Rattle.refusals.specs.declared.Refusal.{Refusal}
+use Rattle.refusals.specs.declared.Reason.TheVariants.{Misplaced, OwnName}
+use Rattle.program.specs.declared.Counts.{Counts}
 use Rattle.program.proofs.CheckSays.{says_of}
 
 -- A line: the value of an operator, by its number, on two values; the number with which an expression stops where there are no cells;
@@ -57,10 +59,10 @@ small (b ∷ bs) = ltb b 256 && small bs
 
 all_bytes : (f : List ℕ) → small f ≡ true → AllBytes f
 all_bytes [] h i = omega arith
-all_bytes (b ∷ bs) h zero = ltb-true b 256 (and_true (ltb b 256) (small bs) h).0
-all_bytes (b ∷ bs) h (suc i) = all_bytes bs (and_true (ltb b 256) (small bs) h).1 i
+all_bytes (b ∷ bs) h zero = ltb-true b 256 (and_parts (ltb b 256) (small bs) h).0
+all_bytes (b ∷ bs) h (suc i) = all_bytes bs (and_parts (ltb b 256) (small bs) h).1 i
 
-answered : (f : List ℕ) (a : Checked) → small f ≡ true → a ≡ check_of f → Says f (given a)
+answered : (f : List ℕ) (a : Result Counts Refusal) → small f ≡ true → a ≡ check_of f → Says f (given a)
 answered f a h e = says_of f (all_bytes f h) a e
 
 -- -7 / 2, -7 % 2; 7 / -2, 7 % -2; 2147483647 + 1; 65536 * 65536; -8 ^ 3; 0 && (1 / 0);
@@ -79,10 +81,10 @@ pub starred : Hold (
     ∷ answers (bytes_of (names 1 [] ∷ begin ∷ assign 0 (cell 0) (var 0) ∷ end ∷ [])) (fault 8 2)
     ∷ answers (bytes_of (names 1 (1 ∷ []) ∷ begin ∷ assign 0 (entry 0 (var 0)) (con (pos 1)) ∷ end ∷ [])) (counts 4 1 2)
     ∷ [])
-unfolding apply_op wrap floor_div floor_mod eval check_of cells_of walk_of walk_from order_of order_from next offsets offsets_from kinds_at wrong_at cut_at unknown_at sized_as names_fit lengths_fit formed_as set_body shorts_at sum whole within up_to layer known occurs any_name there_scalar there_array there_call there_at free_scalar free_array free_at first_from bytes_of encode_record body kind encode flat_map
+unfolding apply_op wrap floor_div floor_mod eval check_of cells_of walk_of walk_over order_of order_from next kind_of offsets offsets_from kinds_at wrong_at cut_at unknown_at sized_as names_fit lengths_fit formed_as set_body shorts_at sum whole within up_to layer known occurs any_name there_scalar there_array there_call there_at free_scalar free_array free_at bytes_of encode_record body kind encode flat_map
 starred =
     refl and refl and refl and refl and refl and refl and refl and ◌and◌ {l = stops _ 32} (div_by_zero, refl, refl)
-    (answered [] (Refused 6 0) refl refl and answered _ (Refused 6 2) refl refl and answered _ (Refused 8 2) refl refl and answered _ (Accepted 4 1 2) refl refl and done)
+    (answered [] (refused Misplaced 0) refl refl and answered _ (refused Misplaced 2) refl refl and answered _ (refused OwnName 2) refl refl and answered _ (Ok (record { records = 4; procedures = 1; cells = 2 })) refl refl and done)
 
 -- n IFs one in another.
 abbrev pub nested : ℕ → Block
@@ -93,9 +95,9 @@ abbrev pub nest : ℕ → List ℕ
 nest n = bytes_of (records_of (record { scalars = 0; lengths = []; main = nested n; others = [] }))
 
 pub sixteen : Says (nest 16) (counts 68 1 0)
-unfolding check_of cells_of walk_of walk_from order_of order_from next offsets offsets_from kinds_at wrong_at cut_at unknown_at sized_as names_fit lengths_fit formed_as set_body shorts_at sum whole within up_to layer known occurs any_name there_scalar there_array there_call there_at free_scalar free_array free_at first_from bytes_of encode_record body kind encode flat_map records_of records_p records_s
-sixteen = answered (nest 16) (Accepted 68 1 0) refl refl
+unfolding check_of cells_of walk_of walk_over order_of order_from next kind_of offsets offsets_from kinds_at wrong_at cut_at unknown_at sized_as names_fit lengths_fit formed_as set_body shorts_at sum whole within up_to layer known occurs any_name there_scalar there_array there_call there_at free_scalar free_array free_at bytes_of encode_record body kind encode flat_map records_of records_p records_s
+sixteen = answered (nest 16) (Ok (record { records = 68; procedures = 1; cells = 0 })) refl refl
 
 pub seventeen : Says (nest 17) (fault 6 18)
-unfolding check_of cells_of walk_of walk_from order_of order_from next offsets offsets_from kinds_at wrong_at cut_at unknown_at sized_as names_fit lengths_fit formed_as set_body shorts_at sum whole within up_to layer known occurs any_name there_scalar there_array there_call there_at free_scalar free_array free_at first_from bytes_of encode_record body kind encode flat_map records_of records_p records_s
-seventeen = answered (nest 17) (Refused 6 18) refl refl
+unfolding check_of cells_of walk_of walk_over order_of order_from next kind_of offsets offsets_from kinds_at wrong_at cut_at unknown_at sized_as names_fit lengths_fit formed_as set_body shorts_at sum whole within up_to layer known occurs any_name there_scalar there_array there_call there_at free_scalar free_array free_at bytes_of encode_record body kind encode flat_map records_of records_p records_s
+seventeen = answered (nest 17) (refused Misplaced 18) refl refl

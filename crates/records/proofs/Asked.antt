@@ -1,10 +1,10 @@
--- One record: what `wrong_at` answers is what `Wrong` says, and 0 where the record is formed and within the sizes.
---     fine_record, record_fine    0: the bytes start with such a record, and the other way
---     asked_wrong, wrong_asked    any other number: `Wrong` says it, and the other way
+-- One record: what `wrong_at` answers is what `Wrong` says, and none where the record is formed and within the sizes.
+--     fine_record, record_fine    none: the bytes start with such a record, and the other way
+--     asked_wrong, wrong_asked    a reason: `Wrong` says it, and the other way
 --     encode_unique               bytes start with one formed record at most
 use mathlib.Core.Path.{◌≡◌, refl, sym, ap, ◌∙◌}
 use mathlib.Core.List.{List, ◌++◌}
-use mathlib.Core.Bool.{Bool, true, false, cond, ◌||◌, true≢false}
+use mathlib.Core.Bool.{Bool, true, false, ◌||◌, true≢false}
 use mathlib.Core.Logic.{◌⊎◌, inl, inr, ⊎_elim}
 use Prim.Native.Nat.{ℕ, ◌+◌, ◌^◌, ◌≤◌, ◌<◌}
 use native.Mathlib.Nat.{add-zero, add_assoc}
@@ -15,6 +15,10 @@ use lib.ListN.{length, drop, length-drop, length-take, take-append-drop}
 use lib.Seq.{get_or-drop, take-append_seam}
 use Rattle.codes.specs.Codes.{bytes16, AllBytes}
 use Rattle.codes.proofs.Rows.{short_lt}
+use Rattle.std.proofs.lemmas.Bool.{cond_both, or_parts, true_from_ne_false, false_from_ne_true}
+use Rattle.std.proofs.Common.{Option, Some, None}
+use Rattle.refusals.specs.declared.Reason.{Reason}
+use Rattle.refusals.specs.declared.Reason.TheVariants as reason
 use Rattle.records.specs.Records.{Record, kind, body, encode_record, Formed, InSize}
 use Rattle.records.specs.Faults.{word, Cut, Unknown, Starts, Wrong, cut, unknown, malformed, oversize}
 use Rattle.records.specs.Walk.{stride, kind_at}
@@ -25,35 +29,19 @@ use Rattle.records.proofs.Sound.{sound_body}
 use Rattle.records.proofs.Complete.{complete_body}
 use Rattle.records.proofs.Sizes.{in_size, size_in}
 
--- ---- the number by the four questions
-module _ (f : List ℕ) (at k b : ℕ) (P : ℕ → Type 0) where
-  either : (t : Bool) (m n : ℕ) → (t ≡ true → P m) → (t ≡ false → P n) → P (cond t m n)
-  either true m n p q = p refl
-  either false m n p q = q refl
-
-  pub asked_cases : (cut_at f at ≡ true → P 2)
-      → (cut_at f at ≡ false → unknown_at f at ≡ true → P 3)
-      → (cut_at f at ≡ false → unknown_at f at ≡ false → formed_at f at ≡ false → P 4)
-      → (cut_at f at ≡ false → unknown_at f at ≡ false → formed_at f at ≡ true → sized_at f at k b ≡ false → P 5)
-      → (cut_at f at ≡ false → unknown_at f at ≡ false → formed_at f at ≡ true → sized_at f at k b ≡ true → P 0)
+-- ---- the reason by the four questions
+module _ (f : List ℕ) (at k b : ℕ) (P : Option Reason → Type 0) where
+  pub asked_cases : (cut_at f at ≡ true → P (Some reason.Cut))
+      → (cut_at f at ≡ false → unknown_at f at ≡ true → P (Some reason.UnknownKind))
+      → (cut_at f at ≡ false → unknown_at f at ≡ false → formed_at f at ≡ false → P (Some reason.Malformed))
+      → (cut_at f at ≡ false → unknown_at f at ≡ false → formed_at f at ≡ true → sized_at f at k b ≡ false → P (Some reason.Oversize))
+      → (cut_at f at ≡ false → unknown_at f at ≡ false → formed_at f at ≡ true → sized_at f at k b ≡ true → P None)
       → P (wrong_at f at k b)
   unfolding wrong_at
   asked_cases two three four five fine =
-      either _ _ _ two (λ c. either _ _ _ (three c) (λ u. either _ _ _ (λ g. either _ _ _ (fine c u g) (five c u g)) (four c u)))
+      cond_both _ _ _ P two (λ c. cond_both _ _ _ P (three c) (λ u. cond_both _ _ _ P (λ g. cond_both _ _ _ P (fine c u g) (five c u g)) (four c u)))
 
 -- ---- 2 and 3 as tests and as facts, at the bytes from a position on
-or_false : (a b : Bool) → a || b ≡ false → (a ≡ false) × (b ≡ false)
-or_false true b e = (cc, cc)
-or_false false b e = (refl, e)
-
-true_of : (t : Bool) → (t ≡ false → ⊥) → t ≡ true
-true_of true h = refl
-true_of false h = absurd (h refl)
-
-false_of : (t : Bool) → (t ≡ true → ⊥) → t ≡ false
-false_of true h = absurd (h refl)
-false_of false h = refl
-
 pub word_drop : (f : List ℕ) (at k : ℕ) → word (drop at f) k ≡ word f (at + k)
 word_drop f at k = rw (get_or-drop at f k 0, get_or-drop at f (k + 1) 0, add_assoc at k 1)
 
@@ -67,8 +55,8 @@ module _ (f : List ℕ) (at : ℕ) where
   framed : cut_at f at ≡ false → Framed
   unfolding cut_at
   framed e =
-      let x = or_false (ltb (length f) (at + 4)) _ e in
-      let y = or_false (ltb (word f at) 4) _ x.1 in
+      let x = or_parts (ltb (length f) (at + 4)) _ e in
+      let y = or_parts (ltb (word f at) 4) _ x.1 in
       (ltb-false (word f at) 4 y.0, ltb-false (length f) (stop f at) y.1)
 
   not_cut : Framed → cut_at f at ≡ false
@@ -102,7 +90,7 @@ module _ (f : List ℕ) (at : ℕ) where
   known : unknown_at f at ≡ false → Known
   unfolding unknown_at
   known e =
-      let x = or_false (eqb (kind_at f at) 0) _ e in
+      let x = or_parts (eqb (kind_at f at) 0) _ e in
       let z = eqb-false (kind_at f at) 0 x.0 in
       (omega arith, ltb-false 13 (kind_at f at) x.1)
 
@@ -179,7 +167,7 @@ encode_unique r r' x y h h' s s' e =
     let f = encode_record r ++ x in
     (sym (read_back f 0 r x h s refl) ∙ read_back f 0 r' y h' s' e, sym (next_is f 0 r x s refl) ∙ next_is f 0 r' y s' e)
 
--- ---- 0: a formed record within the sizes
+-- ---- none: a formed record within the sizes
 pub record Good (f : List ℕ) (at k b : ℕ) (r : Record) : Type 0 where
   pub formed : Formed r
   pub sized : InSize k b r
@@ -187,11 +175,9 @@ pub record Good (f : List ℕ) (at k b : ℕ) (r : Record) : Type 0 where
   pub kinds : kind_at f at ≡ kind r
 
 module _ (f : List ℕ) (B : AllBytes f) (at k b : ℕ) where
-  pub fine_record : wrong_at f at k b ≡ 0 → Good f at k b (record_at f at)
+  pub fine_record : wrong_at f at k b ≡ None → Good f at k b (record_at f at)
   fine_record =
-      asked_cases f at k b (λ n. n ≡ 0 → Good f at k b (record_at f at)) (λ c e. absurd (omega arith)) (λ c u e. absurd (omega arith))
-      (λ c u g e. absurd (omega arith))
-      (λ c u g s e. absurd (omega arith))
+      asked_cases f at k b (λ n. n ≡ None → Good f at k b (record_at f at)) (λ c e. cc) (λ c u e. cc) (λ c u g e. cc) (λ c u g s e. cc)
       (λ c u g s e. fine (framed f at c) (known f at u) g s)
     where
       fine : Framed f at → Known f at → formed_at f at ≡ true → sized_at f at k b ≡ true → Good f at k b (record_at f at)
@@ -211,12 +197,12 @@ module _ (f : List ℕ) (B : AllBytes f) (at k b : ℕ) where
         let kn = knows f at r x h short D in
         rw (read_back f at r x h short D) at (in_size f at k b (kind_at f at) kn.0 kn.1 s)
 
-    pub record_fine : InSize k b r → wrong_at f at k b ≡ 0
+    pub record_fine : InSize k b r → wrong_at f at k b ≡ None
     unfolding wrong_at
     record_fine s =
         rw (not_cut f at (frames f at r x h short D), not_unknown f at (knows f at r x h short D), (found f at r x h short D).0, size_back s)
 
-  -- ---- any other number
+  -- ---- a reason
   record Found : Type 0 where
     formed : Formed (record_at f at)
     short : length (encode_record (record_at f at)) < 2 ^ 16
@@ -229,39 +215,43 @@ module _ (f : List ℕ) (B : AllBytes f) (at k b : ℕ) where
       let l : length (encode_record (record_at f at)) < 2 ^ 16 = omega (arith, z.1.1.ends, short_lt f B at) in
       record { formed = z.0; short = l; there = z.1.1.there; starts = front_starts f at (record_at f at) _ l z.1.1.there }
 
-  pub asked_wrong : at < length f → (n : ℕ) → wrong_at f at k b ≡ n → (n ≡ 0 → ⊥) → Wrong k b (drop at f) n
-  asked_wrong h n e = rw e at (asked_cases f at k b (λ n. (n ≡ 0 → ⊥) → Wrong k b (drop at f) n) (λ c z. cut (is_cut f at h c))
-      (λ c u z. unknown some (framed_cut f at (framed f at c)) (is_unknown f at u))
-      (λ c u g z. malformed some (framed_cut f at (framed f at c)) (known_unknown f at (known f at u)) (none g))
-      (λ c u g s z. over (framed f at c) (known f at u) g s)
-      (λ c u g s z. absurd (z refl)))
+  pub asked_wrong : at < length f → (r : Reason) → wrong_at f at k b ≡ Some r → Wrong k b (drop at f) r
+  asked_wrong h r =
+      asked_cases f at k b (λ w. w ≡ Some r → Wrong k b (drop at f) r) (λ c e. is e (cut (is_cut f at h c)))
+      (λ c u e. is e (unknown some (framed_cut f at (framed f at c)) (is_unknown f at u)))
+      (λ c u g e. is e (malformed some (framed_cut f at (framed f at c)) (known_unknown f at (known f at u)) (none g)))
+      (λ c u g s e. is e (over (framed f at c) (known f at u) g s))
+      (λ c u g s e. cc)
     where
+      is : {q : Reason} → ◌≡◌ {A = Option Reason} (Some q) (Some r) → Wrong k b (drop at f) q → Wrong k b (drop at f) r
+      is {q} e w = let same : q ≡ r = cc in rw same at w
+
       some : 0 < length (drop at f)
       some = omega (arith, length-drop at f)
 
       none : formed_at f at ≡ false → (r : Record) → Formed r → Starts (drop at f) r → ⊥
       none g r h s = true≢false (sym (found f at r _ h (starts_short f at r B s) (starts_front f at r s)).0 ∙ g)
 
-      over : Framed f at → Known f at → formed_at f at ≡ true → sized_at f at k b ≡ false → Wrong k b (drop at f) 5
+      over : Framed f at → Known f at → formed_at f at ≡ true → sized_at f at k b ≡ false → Wrong k b (drop at f) reason.Oversize
       over fr kn g s =
           let z = starts_record fr kn g in
           oversize (record_at f at) some (framed_cut f at fr) z.formed z.starts
           (λ i. true≢false (sym (size_back (record_at f at) _ z.formed z.short z.there i) ∙ s))
 
-  pub wrong_asked : {n : ℕ} → Wrong k b (drop at f) n → wrong_at f at k b ≡ n
+  pub wrong_asked : {r : Reason} → Wrong k b (drop at f) r → wrong_at f at k b ≡ Some r
   unfolding wrong_at
-  wrong_asked (cut c) = rw (true_of (cut_at f at) (λ e. framed_cut f at (framed f at e) c))
+  wrong_asked (cut c) = rw (true_from_ne_false (cut_at f at) (λ e. framed_cut f at (framed f at e) c))
   wrong_asked (unknown h c u) =
       let l : at < length f = omega (arith, length-drop at f) in
-      rw (false_of (cut_at f at) (λ e. c (is_cut f at l e)), true_of (unknown_at f at) (λ e. known_unknown f at (known f at e) u))
+      rw (false_from_ne_true (cut_at f at) (λ e. c (is_cut f at l e)), true_from_ne_false (unknown_at f at) (λ e. known_unknown f at (known f at e) u))
   wrong_asked (malformed h c u none) =
       let l : at < length f = omega (arith, length-drop at f) in
-      let x = false_of (cut_at f at) (λ e. c (is_cut f at l e)) in
-      let y = false_of (unknown_at f at) (λ e. u (is_unknown f at e)) in
-      let z = false_of (formed_at f at) (λ e. let g = starts_record (framed f at x) (known f at y) e in none (record_at f at) g.formed g.starts) in
+      let x = false_from_ne_true (cut_at f at) (λ e. c (is_cut f at l e)) in
+      let y = false_from_ne_true (unknown_at f at) (λ e. u (is_unknown f at e)) in
+      let z = false_from_ne_true (formed_at f at) (λ e. let g = starts_record (framed f at x) (known f at y) e in none (record_at f at) g.formed g.starts) in
       rw (x, y, z)
   wrong_asked (oversize r h c g s big) =
       let D = starts_front f at r s in
       let l = starts_short f at r B s in
-      let z = false_of (sized_at f at k b) (λ e. big (back_size r _ g l D e)) in
+      let z = false_from_ne_true (sized_at f at k b) (λ e. big (back_size r _ g l D e)) in
       rw (not_cut f at (frames f at r _ g l D), not_unknown f at (knows f at r _ g l D), (found f at r _ g l D).0, z)

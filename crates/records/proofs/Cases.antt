@@ -1,23 +1,29 @@
 -- What the functions of `walk` and `reading` answer, case by case, over plain numbers and lists.
 use mathlib.Core.Path.{◌≡◌, refl, sym, ◌∙◌}
 use mathlib.Core.List.{List}
+use mathlib.Core.Logic.{◌⊎◌, ⊎_elim}
 use mathlib.Core.Bool.{Bool, true, false, cond, ◌&&◌, and-false}
 use Prim.Native.Nat.{ℕ, suc, ◌+◌, ◌-◌, ◌*◌, ◌≤◌, ◌<◌}
 use native.Mathlib.Nat.{add-zero, add_assoc}
 use native.Mathlib.Omega.{arith}
 use borrow.Author.Tests.{lt-ltb, le-ltb, le-leb, lt-leb, ne_eqb}
-use lib.Dec.{eqb, ltb, leb}
+use lib.Dec.{ltb, leb}
+use mir.Val.{bool_byte}
 use lib.ListN.{length, get_or, get_or-eq_default}
+use Rattle.std.proofs.Common.{Option, Some, None}
+use Rattle.std.specs.Bool.{then_some}
+use Rattle.refusals.specs.declared.Reason.TheVariants.{Cut, UnknownKind, Malformed, Oversize}
 use Rattle.expr.specs.Bytes.{Got}
-use Rattle.expr.specs.Answers.{end_of, pick_end}
-use Rattle.expr.specs.declared.End.{End}
-use Rattle.expr.specs.declared.End.TheVariants.{At, Bad}
+use Rattle.expr.specs.Answers.{end_of}
 use Rattle.expr.proofs.Layer.{upto_out}
-use Rattle.records.specs.Records.{is_begin, sum}
+use Rattle.records.specs.Records.{sum}
+use Rattle.records.specs.Kinds.{kind_number, kind_of}
 use Rattle.records.specs.Faults.{word}
 use Rattle.records.specs.Walk.{kind_at}
-use Rattle.records.specs.Reading.{stop, expr_at, fills, tests, calls, set_body, formed_as, shorts_at, lengths_fit, cells_fit, names_fit, sized_as, cut_at, unknown_at, wrong_at}
+use Rattle.records.specs.Reading.{expr_at, fills, set_body, formed_as, shorts_at, lengths_fit, cells_fit, names_fit, sized_as, cut_at, unknown_at, wrong_at}
+use Rattle.records.specs.declared.kind.Kind.{Kind}
 use Rattle.records.proofs.Bytes.{length_shorts}
+use Rattle.records.proofs.Thirteen.{unnamed, named}
 
 -- ---- past the end there are zeros, and no expression
 module _ (f : List ℕ) where
@@ -31,28 +37,20 @@ module _ (f : List ℕ) where
   expr_out i h = rw (upto_out _ 16 f i h)
 
 -- ---- where an expression ends
-pub end_at : (g : Got) (e : End) (n : ℕ) → e ≡ At n → e ≡ end_of g → (g.ok ≡ true) × (g.next ≡ n)
-end_at g e n p q = go g.ok g.next (sym q ∙ p)
-  where
-    go : (b : Bool) (m : ℕ) → pick_end b m ≡ At n → (b ≡ true) × (m ≡ n)
-    go true m e = (refl, cc)
-    go false m e = let z : ◌≡◌ {A = ℕ} 0 1 = cc in absurd (omega arith)
+module _ (g : Got) (e : Option ℕ) (ee : e ≡ end_of g) where
+  pub ends_at : (n : ℕ) → e ≡ Some n → (g.ok ≡ true) × (g.next ≡ n)
+  ends_at n p = go g.ok g.next (sym ee ∙ p)
+    where
+      go : (b : Bool) (m : ℕ) → then_some b m ≡ Some n → (b ≡ true) × (m ≡ n)
+      go true m e = (refl, cc)
+      go false m e = cc
 
-pub end_bad : (g : Got) (e : End) → e ≡ Bad → e ≡ end_of g → g.ok ≡ false
-end_bad g e p q = go g.ok g.next (sym q ∙ p)
-  where
-    go : (b : Bool) (m : ℕ) → pick_end b m ≡ Bad → b ≡ false
-    go true m e = cc
-    go false m e = refl
-
-module _ (g : Got) (stop : ℕ) (e : End) where
-  pub fills_at : (n : ℕ) → e ≡ At n → e ≡ end_of g → eqb n stop ≡ fills g stop
-  fills_at n p q = let z = end_at g e n p q in rw (z.0, z.1)
-
-  pub fills_bad : e ≡ Bad → e ≡ end_of g → false ≡ fills g stop
-  fills_bad p q = rw (end_bad g e p q)
-
-pub ruleset filling = (fills_at, fills_bad)
+  pub ends_not : e ≡ None → g.ok ≡ false
+  ends_not p = go g.ok g.next (sym ee ∙ p)
+    where
+      go : (b : Bool) (m : ℕ) → then_some b m ≡ None → b ≡ false
+      go true m e = cc
+      go false m e = refl
 
 -- ---- a SET's body
 module _ (f : List ℕ) (at : ℕ) where
@@ -76,14 +74,14 @@ module _ (f : List ℕ) (at : ℕ) where
       unfolding set_body
       set_form n0 n1 = rw (← oo, lt-ltb o 3 small, ← tt, ne_eqb t 0 n0, ne_eqb t 1 n1)
 
-      module _ (e : End) (ee : e ≡ end_of (expr_at f (at + 8))) (one : t ≡ 1) where
-        pub set_entry_lem : (r : Bool) (n : ℕ) → e ≡ At n → r ≡ fills (expr_at f n) (at + w) → r ≡ set_body f at
+      module _ (e : Option ℕ) (ee : e ≡ end_of (expr_at f (at + 8))) (one : t ≡ 1) where
+        pub set_entry_lem : (r : Bool) (n : ℕ) → e ≡ Some n → r ≡ fills (expr_at f n) (at + w) → r ≡ set_body f at
         unfolding set_body
-        set_entry_lem r n p q = let z = end_at (expr_at f (at + 8)) e n p ee in q ∙ rw (← oo, lt-ltb o 3 small, ← tt, one, z.0, z.1, ww)
+        set_entry_lem r n p q = let z = ends_at (expr_at f (at + 8)) e ee n p in q ∙ rw (← oo, lt-ltb o 3 small, ← tt, one, z.0, z.1, ww)
 
-        pub set_bad : e ≡ Bad → false ≡ set_body f at
+        pub set_bad : e ≡ None → false ≡ set_body f at
         unfolding set_body
-        set_bad p = rw (← oo, lt-ltb o 3 small, ← tt, one, end_bad (expr_at f (at + 8)) e p ee)
+        set_bad p = rw (← oo, lt-ltb o 3 small, ← tt, one, ends_not (expr_at f (at + 8)) e ee p)
 
 pub ruleset setting = (set_out, set_op, set_cell_lem, set_form, set_entry_lem, set_bad)
 
@@ -98,80 +96,28 @@ module _ (f : List ℕ) (at k : ℕ) where
   formed_out h =
       rw (word_out f at h, ← set_out f at h, expr_out f (at + 4) (omega arith), ne_eqb 0 (8 + 2 * word f (at + 6)) (λ e. omega arith)) (simp same_both)
 
-  module _ (w : ℕ) (ww : w ≡ word f at) where
-    pub formed_names : (n : ℕ) → k ≡ 1 → n ≡ word f (at + 6) → eqb w (8 + 2 * n) ≡ formed_as k f at
-    unfolding formed_as
-    formed_names n e q = rw (e, q, ww)
-
-    pub formed_set : (r : Bool) → k ≡ 4 → r ≡ set_body f at → r ≡ formed_as k f at
-    unfolding formed_as
-    formed_set r e q = q ∙ rw e
-
-    module _ (n1 : k ≡ 1 → ⊥) (n4 : k ≡ 4 → ⊥) (t : Bool) (tt : t ≡ tests k) where
-      pub formed_test : (r : Bool) → t ≡ true → r ≡ fills (expr_at f (at + 4)) (at + w) → r ≡ formed_as k f at
-      unfolding formed_as
-      formed_test r e q = q ∙ rw (ne_eqb k 1 n1, ne_eqb k 4 n4, ← tt, e, ww)
-
-      module _ (no : t ≡ false) (c : Bool) (cc : c ≡ calls k) where
-        pub formed_call : c ≡ true → eqb w 6 ≡ formed_as k f at
-        unfolding formed_as
-        formed_call e = rw (ne_eqb k 1 n1, ne_eqb k 4 n4, ← tt, no, ← cc, e, ww)
-
-        pub formed_bare : c ≡ false → eqb w 4 ≡ formed_as k f at
-        unfolding formed_as
-        formed_bare e = rw (ne_eqb k 1 n1, ne_eqb k 4 n4, ← tt, no, ← cc, e, ww)
-
-pub ruleset forming = (formed_out, formed_set, formed_names, formed_test, formed_call, formed_bare)
-
-module _ (k : ℕ) where
-  pub tests_five : k ≡ 5 → true ≡ tests k
-  tests_five e = rw e
-
-  pub tests_seven : k ≡ 7 → true ≡ tests k
-  tests_seven e = rw e
-
-  pub tests_eight : k ≡ 8 → true ≡ tests k
-  tests_eight e = rw e
-
-  pub tests_ten : (k ≡ 5 → ⊥) → (k ≡ 7 → ⊥) → (k ≡ 8 → ⊥) → eqb k 10 ≡ tests k
-  tests_ten a b c = rw (ne_eqb k 5 a, ne_eqb k 7 b, ne_eqb k 8 c)
-
-  pub calls_eleven : k ≡ 11 → true ≡ calls k
-  calls_eleven e = rw e
-
-  pub calls_twelve : (k ≡ 11 → ⊥) → eqb k 12 ≡ calls k
-  calls_twelve a = rw (ne_eqb k 11 a)
-
-pub ruleset sorting = (tests_five, tests_seven, tests_eight, tests_ten, calls_eleven, calls_twelve)
-
 -- ---- sizes
 module _ (f : List ℕ) (p n total : ℕ) where
-  pub cells_over : 2048 < total → false ≡ cells_fit total (shorts_at f p n)
-  cells_over h = rw (lt-leb (total + sum (shorts_at f p n)) 2048 (omega arith), and-false)
-
   pub cells_none : n ≡ 0 → leb total 2048 ≡ cells_fit total (shorts_at f p n)
   unfolding shorts_at lengths_fit sum
   cells_none e = rw (e, add-zero total)
 
-  -- the first of them
-  cells_first : (m : ℕ) → n ≡ suc m → cells_fit total (shorts_at f p n) ≡ (leb 1 (word f p) && leb (word f p) 1024 && lengths_fit (shorts_at f (p + 2) m)) && leb (total + (word f p + sum (shorts_at f (p + 2) m))) 2048
-  unfolding shorts_at lengths_fit sum
-  cells_first m e = rw e
-
   module _ (some : 0 < n) where
-    pub cells_out : length f ≤ p → false ≡ cells_fit total (shorts_at f p n)
-    cells_out h = sym (cells_first (n - 1) (omega arith) ∙ rw (word_out f p h))
+    -- the first of them
+    cells_first : (m : ℕ) → n ≡ suc m
+        → cells_fit total (shorts_at f p n) ≡ (leb 1 (word f p) && leb (word f p) 1024 && lengths_fit (shorts_at f (p + 2) m)) && leb (total + (word f p + sum (shorts_at f (p + 2) m))) 2048
+    unfolding shorts_at lengths_fit sum
+    cells_first m e = rw e
 
-    module _ (x : ℕ) (xx : x ≡ word f p) where
-      pub cells_zero : x ≡ 0 → false ≡ cells_fit total (shorts_at f p n)
-      cells_zero e = sym (cells_first (n - 1) (omega arith) ∙ rw (← xx, e))
+    pub cells_bad : (word f p ≡ 0) ⊎ ((word f p ≡ 0 → ⊥) × (1024 < word f p)) → false ≡ cells_fit total (shorts_at f p n)
+    cells_bad h =
+        sym (cells_first (n - 1) (omega arith) ∙ ⊎_elim (λ e. rw e) (λ l. rw (lt-leb (word f p) 1024 l.1, and-false)) h)
 
-      pub cells_long : 1024 < x → false ≡ cells_fit total (shorts_at f p n)
-      cells_long h = sym (cells_first (n - 1) (omega arith) ∙ rw (← xx, lt-leb x 1024 h, and-false))
+    pub cells_step : (word f p ≡ 0 → ⊥) → word f p ≤ 1024 → cells_fit (total + word f p) (shorts_at f (p + 2) (n - 1)) ≡ cells_fit total (shorts_at f p n)
+    cells_step z h =
+        sym (cells_first (n - 1) (omega arith) ∙ rw (le-leb 1 (word f p) (omega arith), le-leb (word f p) 1024 h, add_assoc total (word f p) (sum (shorts_at f (p + 2) (n - 1)))))
 
-      pub cells_step : (x ≡ 0 → ⊥) → x ≤ 1024 → cells_fit (total + x) (shorts_at f (p + 2) (n - 1)) ≡ cells_fit total (shorts_at f p n)
-      cells_step z h =
-          sym (cells_first (n - 1) (omega arith) ∙ rw (← xx, le-leb 1 x (omega arith), le-leb x 1024 h, add_assoc total x (sum (shorts_at f (p + 2) (n - 1)))))
+pub ruleset counting = (cells_none, cells_bad, cells_step)
 
 module _ (f : List ℕ) (at : ℕ) where
   abbrev at_names : Bool
@@ -197,87 +143,56 @@ module _ (f : List ℕ) (at : ℕ) where
 
 pub ruleset naming = (names_out, names_scalars, names_arrays, names_cells)
 
-module _ (f : List ℕ) (at n k b : ℕ) where
-  pub sized_many : 1024 ≤ k → false ≡ sized_as n f at k b
-  unfolding sized_as
-  sized_many h = rw (le-ltb k 1024 h)
-
-  module _ (room : k < 1024) where
-    pub sized_names : (r : Bool) → n ≡ 1 → r ≡ at_names f at → r ≡ sized_as n f at k b
-    unfolding sized_as
-    sized_names r e q = q ∙ rw (e, lt-ltb k 1024 room)
-
-    pub sized_begin : n ≡ 2 → ltb b 64 ≡ sized_as n f at k b
-    unfolding sized_as
-    sized_begin e = rw (e, lt-ltb k 1024 room)
-
-    pub sized_plain : (n ≡ 1 → ⊥) → (n ≡ 2 → ⊥) → true ≡ sized_as n f at k b
-    unfolding sized_as
-    sized_plain x y = rw (lt-ltb k 1024 room, ne_eqb n 1 x, ne_eqb n 2 y)
-
-pub ruleset sizing = (sized_many, sized_names, sized_begin, sized_plain)
-
 -- ---- the questions in turn
 module _ (f : List ℕ) (at k b : ℕ) where
-  pub wrong_few : length f < at + 4 → 2 ≡ wrong_at f at k b
+  pub wrong_few : length f < at + 4 → Some Cut ≡ wrong_at f at k b
   unfolding wrong_at cut_at
   wrong_few h = rw (lt-ltb (length f) (at + 4) h)
 
-  pub wrong_out : length f ≤ at → 2 ≡ wrong_at f at k b
+  pub wrong_out : length f ≤ at → Some Cut ≡ wrong_at f at k b
   wrong_out h = wrong_few (omega arith)
 
-  module _ (four : at + 4 ≤ length f) (w : ℕ) (ww : w ≡ word f at) where
-    pub wrong_small : w < 4 → 2 ≡ wrong_at f at k b
+  module _ (four : at + 4 ≤ length f) where
+    pub wrong_small : word f at < 4 → Some Cut ≡ wrong_at f at k b
     unfolding wrong_at cut_at
-    wrong_small h = rw (le-ltb (length f) (at + 4) four, ← ww, lt-ltb w 4 h)
+    wrong_small h = rw (le-ltb (length f) (at + 4) four, lt-ltb (word f at) 4 h)
 
-    pub wrong_past : 4 ≤ w → length f < at + w → 2 ≡ wrong_at f at k b
+    pub wrong_past : 4 ≤ word f at → length f < at + word f at → Some Cut ≡ wrong_at f at k b
     unfolding wrong_at cut_at
-    wrong_past l h = rw (le-ltb (length f) (at + 4) four, ← ww, le-ltb w 4 l, lt-ltb (length f) (at + w) h)
+    wrong_past l h = rw (le-ltb (length f) (at + 4) four, le-ltb (word f at) 4 l, lt-ltb (length f) (at + word f at) h)
 
-    module _ (least : 4 ≤ w) (within : at + w ≤ length f) (n : ℕ) (nn : n ≡ word f (at + 2)) where
+    module _ (least : 4 ≤ word f at) (within : at + word f at ≤ length f) where
       whole : cut_at f at ≡ false
       unfolding cut_at
-      whole = rw (le-ltb (length f) (at + 4) four, ← ww, le-ltb w 4 least, le-ltb (length f) (at + w) within)
+      whole = rw (le-ltb (length f) (at + 4) four, le-ltb (word f at) 4 least, le-ltb (length f) (at + word f at) within)
 
-      pub wrong_none : n ≡ 0 → 3 ≡ wrong_at f at k b
-      unfolding wrong_at unknown_at
-      wrong_none e = rw (whole, ← nn, e)
+      pub wrong_kind : kind_of (word f (at + 2)) ≡ None → Some UnknownKind ≡ wrong_at f at k b
+      unfolding wrong_at
+      wrong_kind e = rw (whole, unnamed f at e)
 
-      pub wrong_over : 13 < n → 3 ≡ wrong_at f at k b
-      unfolding wrong_at unknown_at
-      wrong_over h = rw (whole, ← nn, lt-ltb 13 n h, ne_eqb n 0 (λ e. omega arith))
+      module _ (n : Kind) (nn : kind_of (word f (at + 2)) ≡ Some n) where
+        known : (unknown_at f at ≡ false) × (kind_number n ≡ word f (at + 2))
+        known = named f at n nn
 
-      module _ (some : n ≡ 0 → ⊥) (most : n ≤ 13) (g : Bool) (gg : g ≡ formed_as n f at) where
-        known : unknown_at f at ≡ false
-        unfolding unknown_at
-        known = rw (← nn, ne_eqb n 0 some, le-ltb 13 n most)
-
-        pub wrong_formed : g ≡ false → 4 ≡ wrong_at f at k b
+        pub wrong_formed : formed_as (kind_number n) f at ≡ false → Some Malformed ≡ wrong_at f at k b
         unfolding wrong_at
-        wrong_formed e = rw (whole, known, ← nn, ← gg, e)
+        wrong_formed e = rw (whole, known.0, ← known.1, e)
 
-        module _ (fine : g ≡ true) (s : Bool) (ss : s ≡ sized_as n f at k b) where
-          pub wrong_sized : s ≡ false → 5 ≡ wrong_at f at k b
-          unfolding wrong_at
-          wrong_sized e = rw (whole, known, ← nn, ← gg, fine, ← ss, e)
+        pub wrong_sized : formed_as (kind_number n) f at ≡ true → sized_as (kind_number n) f at k b ≡ false → Some Oversize ≡ wrong_at f at k b
+        unfolding wrong_at
+        wrong_sized e h = rw (whole, known.0, ← known.1, e, h)
 
-          pub wrong_fine : s ≡ true → 0 ≡ wrong_at f at k b
-          unfolding wrong_at
-          wrong_fine e = rw (whole, known, ← nn, ← gg, fine, ← ss, e)
+        pub wrong_fine : formed_as (kind_number n) f at ≡ true → sized_as (kind_number n) f at k b ≡ true → None ≡ wrong_at f at k b
+        unfolding wrong_at
+        wrong_fine e h = rw (whole, known.0, ← known.1, e, h)
 
-pub ruleset asking = (wrong_out, wrong_few, wrong_small, wrong_past, wrong_none, wrong_over, wrong_formed, wrong_sized, wrong_fine)
+pub ruleset asking = (wrong_out, wrong_few, wrong_small, wrong_past, wrong_kind, wrong_formed, wrong_sized, wrong_fine)
 
-module _ (k : ℕ) where
-  pub is_begin_lem : k ≡ 2 → 1 ≡ is_begin k
-  is_begin_lem e = rw e
+-- ---- 1 for a BEGIN
+pub begin_byte : (b : Bool) → bool_byte b ≡ cond b 1 0
+begin_byte true = refl
+begin_byte false = refl
 
-  pub no_begin : (k ≡ 2 → ⊥) → 0 ≡ is_begin k
-  no_begin e = rw (ne_eqb k 2 e)
-
-pub begin_most : (k : ℕ) → is_begin k ≤ 1
-begin_most k = go (eqb k 2)
-  where
-    go : (t : Bool) → cond t 1 0 ≤ 1
-    go true = omega arith
-    go false = omega arith
+pub begin_most : (b : Bool) → bool_byte b ≤ 1
+begin_most true = omega arith
+begin_most false = omega arith

@@ -11,8 +11,8 @@ use borrow.Author.Tests.{lt-ltb, le-ltb, ltb-true, ltb-false}
 use lib.ListN.{length, drop, get_or, length-append, length-drop}
 use lib.Seq.{drop-cons}
 use lib.Dec.{ltb}
-use mathlib.Core.Bool.{Bool, true, false}
-use Rattle.records.specs.Records.{Record, names, begin, end, assign, if, else, fi, from, loop, until, call, uncall, skip, kind, body, encode_record, bytes_of}
+use mathlib.Core.Bool.{Bool, true, false, cond}
+use Rattle.records.specs.Records.{Every, Record, names, begin, end, assign, if, else, fi, from, loop, until, call, uncall, skip, kind, body, encode_record, bytes_of}
 use Rattle.records.specs.Faults.{word}
 use Rattle.records.specs.Walk.{stride, kind_at, offsets, offsets_from, kinds_at}
 use Rattle.codes.proofs.Rows.{short_back}
@@ -36,6 +36,27 @@ offsets_capped m f at h = offsets_more m f at h ∙ ap (◌∷◌ at) (go (at + 
     go i true e = let k = ltb-true i (length f) e in ap (λ j. offsets_from m f j) (omega arith)
     go i false e = let k = ltb-false i (length f) e in offsets_past m f i k ∙ sym (offsets_past m f (min (length f) i) (omega arith))
 
+-- There are no more records than turns.
+pub offsets_few : (m : ℕ) (f : List ℕ) (at : ℕ) → length (offsets_from m f at) ≤ m
+unfolding offsets_from
+offsets_few zero f at = omega arith
+offsets_few (suc m) f at = go (ltb at (length f)) (offsets_few m f (at + stride f at))
+  where
+    go : (b : Bool) → length (offsets_from m f (at + stride f at)) ≤ m → length (cond b (at ∷ offsets_from m f (at + stride f at)) []) ≤ suc m
+    go true i = omega arith
+    go false i = omega arith
+
+-- Each stands before the end.
+pub offsets_inside : (m : ℕ) (f : List ℕ) (at : ℕ) → Every (λ o. o < length f) (offsets_from m f at)
+unfolding offsets_from
+offsets_inside zero f at = tt
+offsets_inside (suc m) f at = go (ltb at (length f)) refl (offsets_inside m f (at + stride f at))
+  where
+    go : (b : Bool) → ltb at (length f) ≡ b → Every (λ o. o < length f) (offsets_from m f (at + stride f at))
+        → Every (λ o. o < length f) (cond b (at ∷ offsets_from m f (at + stride f at)) [])
+    go true e i = (ltb-true at (length f) e, i)
+    go false e i = tt
+
 -- As many turns as there are bytes are enough.
 same : (n m : ℕ) (f : List ℕ) (at : ℕ) → length f ≤ at + n → length f ≤ at + m → offsets_from n f at ≡ offsets_from m f at
 unfolding offsets_from
@@ -43,18 +64,32 @@ same zero m f at h k = sym (offsets_past m f at (omega arith))
 same (suc n) zero f at h k = offsets_past (suc n) f at (omega arith)
 same (suc n) (suc m) f at h k = rw (same n m f (at + stride f at) (omega arith) (omega arith))
 
-abbrev offsets_at : List ℕ → ℕ → List ℕ
+abbrev pub offsets_at : List ℕ → ℕ → List ℕ
 offsets_at f at = offsets_from (length f - at) f at
 
 module _ (f : List ℕ) where
-  offsets_all : offsets f ≡ offsets_at f 0
+  pub offsets_all : offsets f ≡ offsets_at f 0
   unfolding offsets
   offsets_all = same (length f) (length f - 0) f 0 (omega arith) (omega arith)
 
-  offsets_step : (at : ℕ) → at < length f → offsets_at f at ≡ at ∷ offsets_at f (at + stride f at)
+  pub offsets_step : (at : ℕ) → at < length f → offsets_at f at ≡ at ∷ offsets_at f (at + stride f at)
   offsets_step at h =
       same (length f - at) (suc (length f - at)) f at (omega arith) (omega arith)
       ∙ (offsets_more (length f - at) f at h ∙ ap (◌∷◌ at) (same (length f - at) (length f - (at + stride f at)) f (at + stride f at) (omega arith) (omega arith)))
+
+-- ---- what the walk of `Offsets` has left
+module _ (f : List ℕ) (at : ℕ) where
+  pub left_none : length f ≤ at → offsets_from (length f) f at ≡ []
+  left_none h = offsets_past (length f) f at h
+
+  pub left_next : at < length f → offsets_from (length f) f at ≡ at ∷ offsets_from (length f) f (at + stride f at)
+  left_next h = same (length f) (suc (length f)) f at (omega arith) (omega arith) ∙ offsets_more (length f) f at h
+
+  pub left_less : at < length f → length (offsets_from (length f) f (at + stride f at)) < length (offsets_from (length f) f at)
+  left_less h = omega (arith, ap length (left_next h))
+
+-- the cases, for `Offsets`
+pub ruleset leaving = (left_none, left_next, left_less)
 
 -- ---- a row of records: where each starts
 unfoldable starts_from : ℕ → List Record → List ℕ

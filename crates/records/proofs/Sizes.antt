@@ -7,7 +7,7 @@ use native.Mathlib.Omega.{arith}
 use borrow.Author.Tests.{ltb-true, lt-ltb, leb-true, le-leb}
 use lib.Dec.{leb, ltb}
 use lib.ListN.{length}
-use Rattle.expr.proofs.Layer.{and_true}
+use Rattle.std.proofs.lemmas.Bool.{and_parts}
 use Rattle.records.specs.Records.{Record, names, begin, kind, Every, InSize, sum}
 use Rattle.records.specs.Reading.{lengths_fit, names_fit, sized_as, record_as}
 use Rattle.records.proofs.Thirteen.{kind_cases}
@@ -22,8 +22,8 @@ lengths_fit_lem : (ls : List ℕ) → lengths_fit ls ≡ true → Lengths ls
 unfolding lengths_fit
 lengths_fit_lem [] e = tt
 lengths_fit_lem (n ∷ ns) e =
-    let x = and_true (leb 1 n && leb n 1024) (lengths_fit ns) e in
-    let y = and_true (leb 1 n) (leb n 1024) x.0 in
+    let x = and_parts (leb 1 n && leb n 1024) (lengths_fit ns) e in
+    let y = and_parts (leb 1 n) (leb n 1024) x.0 in
     ((leb-true 1 n y.0, leb-true n 1024 y.1), lengths_fit_lem ns x.1)
 
 fit_lengths : (ls : List ℕ) → Lengths ls → lengths_fit ls ≡ true
@@ -38,9 +38,9 @@ module _ (v : ℕ) (ls : List ℕ) where
   names_fit_lem : names_fit v ls ≡ true → Sizes
   unfolding names_fit
   names_fit_lem e =
-      let x = and_true (leb v 64) _ e in
-      let y = and_true (leb (length ls) 16) _ x.1 in
-      let z = and_true (lengths_fit ls) _ y.1 in
+      let x = and_parts (leb v 64) _ e in
+      let y = and_parts (leb (length ls) 16) _ x.1 in
+      let z = and_parts (lengths_fit ls) _ y.1 in
       (leb-true v 64 x.0, (leb-true (length ls) 16 y.0, (lengths_fit_lem ls z.0, leb-true (v + sum ls) 2048 z.1)))
 
   fit_names : Sizes → names_fit v ls ≡ true
@@ -79,7 +79,7 @@ module _ (k b : ℕ) where
 
 module _ (f : List ℕ) (at k b : ℕ) where
   plain_size : (r : Record) → ltb 2 (kind r) ≡ true → ltb k 1024 && true ≡ true → InSize k b r
-  plain_size r o e = other_size k b r o (ltb-true k 1024 (and_true (ltb k 1024) true e).0)
+  plain_size r o e = other_size k b r o (ltb-true k 1024 (and_parts (ltb k 1024) true e).0)
 
   size_plain : (r : Record) → InSize k b r → ltb k 1024 && true ≡ true
   size_plain r h = and_both _ _ (lt-ltb k 1024 h.records) refl
@@ -88,8 +88,8 @@ module _ (f : List ℕ) (at k b : ℕ) where
   unfolding sized_as record_as kind
   in_size =
       kind_cases (λ n. sized_as n f at k b ≡ true → InSize k b (record_as n f at))
-      (λ e. let x = and_true (ltb k 1024) _ e in names_size k b _ _ (ltb-true k 1024 x.0) (names_fit_lem _ _ x.1))
-      (λ e. let x = and_true (ltb k 1024) _ e in begin_size k b (ltb-true k 1024 x.0) (ltb-true b 64 x.1))
+      (λ e. let x = and_parts (ltb k 1024) _ e in names_size k b _ _ (ltb-true k 1024 x.0) (names_fit_lem _ _ x.1))
+      (λ e. let x = and_parts (ltb k 1024) _ e in begin_size k b (ltb-true k 1024 x.0) (ltb-true b 64 x.1))
       (plain_size _ refl) (plain_size _ refl) (plain_size _ refl) (plain_size _ refl) (plain_size _ refl) (plain_size _ refl)
       (plain_size _ refl) (plain_size _ refl) (plain_size _ refl) (plain_size _ refl) (plain_size _ refl)
 

@@ -11,7 +11,7 @@ use Rattle.codes.specs.Codes.{bytes16, AllBytes}
 use Rattle.codes.proofs.Rows.{short_lt}
 use Rattle.expr.specs.Tree.{encode}
 use Rattle.expr.specs.Bytes.{Stands}
-use Rattle.expr.proofs.Layer.{and_true}
+use Rattle.std.proofs.lemmas.Bool.{and_parts}
 use Rattle.expr.proofs.Format.{sound}
 use Rattle.records.specs.Records.{Record, names, assign, kind, body, Formed, Plain}
 use Rattle.records.specs.Faults.{word}
@@ -38,7 +38,7 @@ module _ (f : List ℕ) (B : AllBytes f) where
 
   pub sound_fills : (i n : ℕ) → fills (expr_at f i) n ≡ true → Plain (expr_at f i).tree × Lies f i (encode (expr_at f i).tree) n
   sound_fills i n o =
-      let p = and_true (expr_at f i).ok (eqb (expr_at f i).next n) o in
+      let p = and_parts (expr_at f i).ok (eqb (expr_at f i).next n) o in
       let g = sound_ok i p.0 in
       (g.0, rw (eqb-true (expr_at f i).next n p.1) at g.1)
 
@@ -96,15 +96,15 @@ module _ (f : List ℕ) (B : AllBytes f) where
     sound_set : set_body f at ≡ true → Body f at 4 written
     unfolding set_body
     sound_set p =
-        let x = and_true (ltb (get_or f (at + 4) 0) 3) _ p in
-        let y = and_true (indexed f at) _ x.1 in
+        let x = and_parts (ltb (get_or f (at + 4) 0) 3) _ p in
+        let y = and_parts (indexed f at) _ x.1 in
         let o = ltb-true _ 3 x.0 in
         go o y.0 y.1 (eqb (get_or f (at + 5) 0) 0) refl
       where
         go : get_or f (at + 4) 0 < 3 → indexed f at ≡ true → fills (expr_at f (value_at f at)) (stop f at) ≡ true → (b : Bool) → eqb (get_or f (at + 5) 0) 0 ≡ b → Body f at 4 written
         go o i p true e = sound_cell (eqb-true _ 0 e) o p
         go o i p false e =
-            let j = and_true (eqb (get_or f (at + 5) 0) 1) _ (or_cases _ _ i e) in
+            let j = and_parts (eqb (get_or f (at + 5) 0) 1) _ (or_cases _ _ i e) in
             sound_entry (eqb-true _ 1 j.0) o j.1 p
 
     -- an expression, a number, nothing

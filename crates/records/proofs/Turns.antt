@@ -7,9 +7,12 @@ use lib.ListN.{length, replicate}
 use Rattle.expr.specs.Tree.{con, var, bin, encode}
 use Rattle.expr.specs.Bytes.{up_to, layer}
 use Rattle.records.specs.Records.{names, begin, end, assign, cell, from, loop, until, skip, bytes_of, encode_record, body, kind, sum}
-use Rattle.records.specs.Reading.{walk_of, walk_from, wrong_at, cut_at, unknown_at, formed_as, set_body, sized_as, names_fit, lengths_fit, shorts_at}
+use Rattle.records.specs.Walk.{offsets, offsets_from}
+use Rattle.records.specs.Reading.{walk_of, walk_over, fine, faulty, wrong_at, cut_at, unknown_at, formed_as, set_body, sized_as, names_fit, lengths_fit, shorts_at}
+use Rattle.std.proofs.Common.{Result}
+use Rattle.refusals.specs.declared.Reason.TheVariants.{Cut, UnknownKind, Malformed, Oversize}
+use Rattle.refusals.specs.declared.Refusal.{Refusal}
 use Rattle.records.specs.declared.Walked.{Walked}
-use Rattle.records.specs.declared.Walked.TheVariants.{Fine, Faulty}
 
 -- the document's program: 76 bytes
 abbrev pub counting : List ℕ
@@ -27,12 +30,12 @@ counting =
     ∷ []
     )
 
-pub counted : (length counting ≡ 76) × (walk_of counting ≡ Fine 9 1)
-unfolding walk_of walk_from wrong_at cut_at unknown_at formed_as set_body sized_as names_fit lengths_fit shorts_at sum bytes_of encode_record body kind flat_map encode up_to layer
+pub counted : (length counting ≡ 76) × (walk_of counting ≡ fine 9 1)
+unfolding walk_of walk_over offsets offsets_from wrong_at cut_at unknown_at formed_as set_body sized_as names_fit lengths_fit shorts_at sum bytes_of encode_record body kind flat_map encode up_to layer
 counted = (refl, refl)
 
 -- NAMES, BEGIN, and then these bytes: the fault is record 2
-abbrev pub third : List ℕ → Walked
+abbrev pub third : List ℕ → Result Walked Refusal
 third rest = walk_of (bytes_of (names 0 [] ∷ begin ∷ []) ++ rest)
 
 abbrev pub cuts : List (List ℕ)
@@ -61,8 +64,8 @@ large =
     ∷ (10 ∷ 0 ∷ 1 ∷ 0 ∷ 0 ∷ 0 ∷ 1 ∷ 0 ∷ 1 ∷ 4 ∷ [])
     ∷ []
 
-pub faults : (map third cuts ≡ replicate 5 (Faulty 2 2))
-    × ((map third strange ≡ replicate 3 (Faulty 3 2))
-    × ((map third bad ≡ replicate 6 (Faulty 4 2)) × (map third large ≡ replicate 3 (Faulty 5 2))))
-unfolding walk_of walk_from wrong_at cut_at unknown_at formed_as set_body sized_as names_fit lengths_fit shorts_at sum bytes_of encode_record body kind flat_map encode up_to layer
+pub faults : (map third cuts ≡ replicate 5 (faulty Cut 2))
+    × ((map third strange ≡ replicate 3 (faulty UnknownKind 2))
+    × ((map third bad ≡ replicate 6 (faulty Malformed 2)) × (map third large ≡ replicate 3 (faulty Oversize 2))))
+unfolding walk_of walk_over offsets offsets_from wrong_at cut_at unknown_at formed_as set_body sized_as names_fit lengths_fit shorts_at sum bytes_of encode_record body kind flat_map encode up_to layer
 faults = (refl, (refl, (refl, refl)))

@@ -8,55 +8,65 @@ use mathlib.Core.Bool.{Bool, true, false, cond}
 use Prim.Native.Nat.{ℕ, zero, suc, ◌+◌, ◌-◌, ◌^◌, ◌≤◌, ◌<◌}
 use native.Mathlib.Nat.{add-zero, zero-add}
 use native.Mathlib.Omega.{arith}
-use borrow.Author.Tests.{ltb-true, ltb-false, lt-ltb, le-ltb, eqb-true, eqb-false, ne_eqb}
-use lib.Dec.{ltb, eqb}
+use borrow.Author.Tests.{ltb-true, ltb-false}
+use lib.Dec.{ltb}
 use lib.ListN.{length, drop, length-append, drop_of_length-le}
+use Rattle.std.proofs.Common.{Option, Some, None, Result, Ok, Err}
+use Rattle.refusals.specs.declared.Reason.{Reason}
+use Rattle.refusals.specs.declared.Refusal.{Refusal}
 use Rattle.codes.specs.Codes.{AllBytes}
 use Rattle.records.specs.Records.{Record, kind, encode_record, bytes_of, FineFrom, begins, is_begin}
 use Rattle.records.specs.Faults.{Wrong, cut, unknown, malformed, oversize}
-use Rattle.records.specs.Walk.{stride, kind_at}
-use Rattle.records.specs.Reading.{record_at, wrong_at, walked, walk_from, walk_of}
+use Rattle.records.specs.Walk.{stride, kind_at, offsets, offsets_from}
+use Rattle.records.specs.Reading.{record_at, wrong_at, fine, faulty, walked, walk_over, walk_of}
 use Rattle.records.specs.declared.Walked.{Walked}
-use Rattle.records.specs.declared.Walked.TheVariants.{Fine, Faulty}
 use Rattle.records.proofs.Bytes.{after, room}
-use Rattle.records.proofs.Offsets.{size_of, stride_is, kind_is, next_is, room_is, short_is}
+use Rattle.records.proofs.Offsets.{offsets_at, offsets_past, offsets_all, offsets_step, offsets_few, size_of, stride_is, kind_is, next_is, room_is, short_is}
 use Rattle.records.proofs.Asked.{Good, fine_record, record_fine, asked_wrong, wrong_asked, encode_unique}
 
 -- ---- any file: one turn of the walk
-more : (n m : ℕ) (f : List ℕ) (at k b : ℕ) → length f ≤ at + n → length f ≤ at + m → walk_from n f at k b ≡ walk_from m f at k b
-unfolding walk_from
-more zero zero f at k b h l = refl
-more zero (suc m) f at k b h l = rw (le-ltb at (length f) (omega arith))
-more (suc n) zero f at k b h l = rw (le-ltb at (length f) (omega arith))
-more (suc n) (suc m) f at k b h l = rw (more n m f (at + stride f at) (suc k) (b + is_begin (kind_at f at)) (omega arith) (omega arith))
-
-abbrev pub walk_at : List ℕ → ℕ → ℕ → ℕ → Walked
-walk_at f at k b = walk_from (length f - at) f at k b
+abbrev pub walk_at : List ℕ → ℕ → ℕ → ℕ → Result Walked Refusal
+walk_at f at k b = walk_over f (offsets_at f at) k b
 
 module _ (f : List ℕ) where
   pub walk_all : walk_of f ≡ walk_at f 0 0 0
   unfolding walk_of
-  walk_all = more (length f) (length f - 0) f 0 0 0 (omega arith) (omega arith)
+  walk_all = ap (λ os. walk_over f os 0 0) (offsets_all f)
 
-  pub walk_end : (at k b : ℕ) → length f ≤ at → walk_at f at k b ≡ Fine k b
-  unfolding walk_from
-  walk_end at k b h = more (length f - at) 0 f at k b (omega arith) (omega arith)
+  pub walk_end : (at k b : ℕ) → length f ≤ at → walk_at f at k b ≡ fine k b
+  unfolding walk_over
+  walk_end at k b h = rw (offsets_past (length f - at) f at h)
 
   module _ (at k b : ℕ) (h : at < length f) where
-    abbrev on : Walked
+    abbrev on : Result Walked Refusal
     on = walk_at f (at + stride f at) (suc k) (b + is_begin (kind_at f at))
 
     walk_turn : walk_at f at k b ≡ walked (wrong_at f at k b) k on
-    unfolding walk_from
-    walk_turn =
-        more (length f - at) (suc (length f - at)) f at k b (omega arith) (omega arith)
-        ∙ rw (lt-ltb at (length f) h, more (length f - at) (length f - (at + stride f at)) f (at + stride f at) (suc k) (b + is_begin (kind_at f at)) (omega arith) (omega arith))
+    unfolding walk_over
+    walk_turn = rw (offsets_step f at h)
 
-    pub walk_on : wrong_at f at k b ≡ 0 → walk_at f at k b ≡ on
+    pub walk_on : wrong_at f at k b ≡ None → walk_at f at k b ≡ on
     walk_on e = walk_turn ∙ rw e
 
-    pub walk_stop : (n : ℕ) → wrong_at f at k b ≡ n → (n ≡ 0 → ⊥) → walk_at f at k b ≡ Faulty n k
-    walk_stop n e z = walk_turn ∙ rw (e, ne_eqb n 0 z)
+    pub walk_stop : (r : Reason) → wrong_at f at k b ≡ Some r → walk_at f at k b ≡ faulty r k
+    walk_stop r e = walk_turn ∙ rw e
+
+-- ---- the walk over positions in hand, for the code's loop
+module _ (f ats : List ℕ) (k b : ℕ) where
+  pub over_none : ats ≡ [] → walk_over f ats k b ≡ fine k b
+  unfolding walk_over
+  over_none e = rw e
+
+  module _ (at : ℕ) (on : List ℕ) (e : ats ≡ at ∷ on) where
+    pub over_on : wrong_at f at k b ≡ None → walk_over f ats k b ≡ walk_over f on (suc k) (b + is_begin (kind_at f at))
+    unfolding walk_over
+    over_on w = rw (e, w)
+
+    pub over_stop : (r : Reason) → wrong_at f at k b ≡ Some r → walk_over f ats k b ≡ faulty r k
+    unfolding walk_over
+    over_stop r w = rw (e, w)
+
+pub ruleset walking = (over_none, over_on, over_stop, offsets_few)
 
 -- ---- what the walk finds
 pub record AllFine (f : List ℕ) (at k b k' b' : ℕ) : Type 0 where
@@ -66,23 +76,23 @@ pub record AllFine (f : List ℕ) (at k b k' b' : ℕ) : Type 0 where
   pub count : k' ≡ k + length rows
   pub begun : b' ≡ b + begins rows
 
-pub record FirstWrong (f : List ℕ) (at k b n k' : ℕ) : Type 0 where
+pub record FirstWrong (f : List ℕ) (at k b : ℕ) (r : Reason) (k' : ℕ) : Type 0 where
   pub rows : List Record
   pub rest : List ℕ
   pub bytes : drop at f ≡ bytes_of rows ++ rest
   pub fine : FineFrom k b rows
   pub count : k' ≡ k + length rows
-  pub wrong : Wrong (k + length rows) (b + begins rows) rest n
+  pub wrong : Wrong (k + length rows) (b + begins rows) rest r
 
-abbrev Outcome : List ℕ → ℕ → ℕ → ℕ → Walked → Type 0
-Outcome f at k b (Fine k' b') = AllFine f at k b k' b'
-Outcome f at k b (Faulty n k') = FirstWrong f at k b n k'
+abbrev Outcome : List ℕ → ℕ → ℕ → ℕ → Result Walked Refusal → Type 0
+Outcome f at k b (Ok w) = AllFine f at k b w.records w.procedures
+Outcome f at k b (Err w) = FirstWrong f at k b w.reason w.label
 
 module _ (f : List ℕ) (B : AllBytes f) where
   -- a fine record before
-  before : (at k b : ℕ) (r : Record) → Good f at k b r → (w : Walked) → Outcome f (at + stride f at) (suc k) (b + is_begin (kind_at f at)) w → Outcome f at k b w
+  before : (at k b : ℕ) (r : Record) → Good f at k b r → (w : Result Walked Refusal) → Outcome f (at + stride f at) (suc k) (b + is_begin (kind_at f at)) w → Outcome f at k b w
   unfolding bytes_of FineFrom begins
-  before at k b r g (Fine k' b') o =
+  before at k b r g (Ok w) o =
       let e = ap is_begin g.kinds in
       record {
         rows = r ∷ o.rows;
@@ -91,7 +101,7 @@ module _ (f : List ℕ) (B : AllBytes f) where
         count = omega (arith, o.count);
         begun = omega (arith, o.begun, e);
       }
-  before at k b r g (Faulty n k') o =
+  before at k b r g (Err w) o =
       let e = ap is_begin g.kinds in
       let c : suc k + length o.rows ≡ k + length (r ∷ o.rows) = omega arith in
       let d : b + is_begin (kind_at f at) + begins o.rows ≡ b + (is_begin (kind r) + begins o.rows) = omega (arith, e) in
@@ -110,57 +120,53 @@ module _ (f : List ℕ) (B : AllBytes f) where
   ended at k b h =
       record { rows = []; bytes = drop_of_length-le f h; fine = tt; count = sym (add-zero k); begun = sym (add-zero b) }
 
-  stopped : (at k b n : ℕ) → Wrong k b (drop at f) n → FirstWrong f at k b n k
+  stopped : (at k b : ℕ) (r : Reason) → Wrong k b (drop at f) r → FirstWrong f at k b r k
   unfolding bytes_of FineFrom begins
-  stopped at k b n w =
+  stopped at k b r w =
       record { rows = []; rest = drop at f; bytes = refl; fine = tt; count = sym (add-zero k); wrong = rw (add-zero k, add-zero b) w }
 
-  module _ (at k b : ℕ) (w : Walked) (o : Outcome f (at + stride f at) (suc k) (b + is_begin (kind_at f at)) w) where
-    asked : at < length f → (t : Bool) → eqb (wrong_at f at k b) 0 ≡ t → Outcome f at k b (cond t w (Faulty (wrong_at f at k b) k))
-    asked l true e = before at k b (record_at f at) (fine_record f B at k b (eqb-true _ 0 e)) w o
-    asked l false e = stopped at k b (wrong_at f at k b) (asked_wrong f B at k b l (wrong_at f at k b) refl (eqb-false _ 0 e))
+  module _ (at k b : ℕ) (w : Result Walked Refusal) (o : Outcome f (at + stride f at) (suc k) (b + is_begin (kind_at f at)) w) where
+    asked : at < length f → (r : Option Reason) → wrong_at f at k b ≡ r → Outcome f at k b (walked r k w)
+    asked l None e = before at k b (record_at f at) (fine_record f B at k b e) w o
+    asked l (Some r) e = stopped at k b r (asked_wrong f B at k b l r e)
 
-    turned : (t : Bool) → ltb at (length f) ≡ t → Outcome f at k b (cond t (walked (wrong_at f at k b) k w) (Fine k b))
-    turned true e = asked (ltb-true at (length f) e) (eqb (wrong_at f at k b) 0) refl
-    turned false e = ended at k b (ltb-false at (length f) e)
+  turned : (at k b : ℕ) (ats : List ℕ) → Outcome f (at + stride f at) (suc k) (b + is_begin (kind_at f at)) (walk_over f ats (suc k) (b + is_begin (kind_at f at)))
+      → (t : Bool) → ltb at (length f) ≡ t → Outcome f at k b (walk_over f (cond t (at ∷ ats) []) k b)
+  unfolding walk_over
+  turned at k b ats o true e = asked at k b (walk_over f ats (suc k) (b + is_begin (kind_at f at))) o (ltb-true at (length f) e) (wrong_at f at k b) refl
+  turned at k b ats o false e = ended at k b (ltb-false at (length f) e)
 
-  walk_finds : (n at k b : ℕ) → length f ≤ at + n → Outcome f at k b (walk_from n f at k b)
-  unfolding walk_from
+  walk_finds : (n at k b : ℕ) → length f ≤ at + n → Outcome f at k b (walk_over f (offsets_from n f at) k b)
+  unfolding walk_over offsets_from
   walk_finds zero at k b h = ended at k b (omega arith)
   walk_finds (suc n) at k b h =
-      turned at k b (walk_from n f (at + stride f at) (suc k) (b + is_begin (kind_at f at)))
+      turned at k b (offsets_from n f (at + stride f at))
       (walk_finds n (at + stride f at) (suc k) (b + is_begin (kind_at f at)) (omega arith))
       (ltb at (length f))
       refl
 
   -- the file is a row of fine records
-  pub walk_fine : (k b : ℕ) → walk_of f ≡ Fine k b
+  pub walk_fine : (k b : ℕ) → walk_of f ≡ fine k b
       → (rs : List Record) × (f ≡ bytes_of rs) × FineFrom 0 0 rs × (k ≡ length rs) × (b ≡ begins rs)
-  unfolding walk_of
+  unfolding walk_of offsets
   walk_fine k b e =
       let z : AllFine f 0 0 0 k b = rw e at (walk_finds (length f) 0 0 0 (omega arith)) in
       (z.rows, z.bytes, z.fine, z.count ∙ zero-add (length z.rows), z.begun ∙ zero-add (begins z.rows))
 
   -- or a record is wrong, behind a row of fine ones
-  pub walk_wrong : (n k : ℕ) → walk_of f ≡ Faulty n k
-      → (rs : List Record) × (rest : List ℕ) × (f ≡ bytes_of rs ++ rest) × FineFrom 0 0 rs × (k ≡ length rs) × Wrong (length rs) (begins rs) rest n
-  unfolding walk_of
-  walk_wrong n k e =
-      let z : FirstWrong f 0 0 0 n k = rw e at (walk_finds (length f) 0 0 0 (omega arith)) in
+  pub walk_wrong : (r : Reason) (k : ℕ) → walk_of f ≡ faulty r k
+      → (rs : List Record) × (rest : List ℕ) × (f ≡ bytes_of rs ++ rest) × FineFrom 0 0 rs × (k ≡ length rs) × Wrong (length rs) (begins rs) rest r
+  unfolding walk_of offsets
+  walk_wrong r k e =
+      let z : FirstWrong f 0 0 0 r k = rw e at (walk_finds (length f) 0 0 0 (omega arith)) in
       (z.rows, z.rest, z.bytes, z.fine, z.count ∙ zero-add (length z.rows), rw (zero-add (length z.rows), zero-add (begins z.rows)) at z.wrong)
 
 -- ---- and the other way
-some_rest : {k b n : ℕ} {rest : List ℕ} → Wrong k b rest n → 0 < length rest
+some_rest : {k b : ℕ} {r : Reason} {rest : List ℕ} → Wrong k b rest r → 0 < length rest
 some_rest (cut c) = c.0
 some_rest (unknown h c u) = h
 some_rest (malformed h c u g) = h
 some_rest (oversize r h c g s i) = h
-
-not_zero : {k b n : ℕ} {rest : List ℕ} → Wrong k b rest n → n ≡ 0 → ⊥
-not_zero (cut c) e = omega arith
-not_zero (unknown h c u) e = omega arith
-not_zero (malformed h c u g) e = omega arith
-not_zero (oversize r h c g s i) e = omega arith
 
 module _ (f : List ℕ) (B : AllBytes f) (short : length f < 2 ^ 16) where
   -- over a row of fine records
@@ -181,7 +187,7 @@ module _ (f : List ℕ) (B : AllBytes f) (short : length f < 2 ^ 16) where
       let u : b + is_begin (kind_at f at) + begins rs ≡ b + (is_begin (kind r) + begins rs) = omega (arith, ap is_begin e) in
       walk_on f at k b l g ∙ i ∙ rw (p, q, u)
 
-  pub fine_walk : (rs : List Record) → f ≡ bytes_of rs → FineFrom 0 0 rs → walk_of f ≡ Fine (length rs) (begins rs)
+  pub fine_walk : (rs : List Record) → f ≡ bytes_of rs → FineFrom 0 0 rs → walk_of f ≡ fine (length rs) (begins rs)
   fine_walk rs e h =
       let n : 0 + length (bytes_of rs) ≡ length f = omega (arith, ap length e) in
       walk_all f
@@ -189,15 +195,15 @@ module _ (f : List ℕ) (B : AllBytes f) (short : length f < 2 ^ 16) where
       ∙ walk_end f (0 + length (bytes_of rs)) (0 + length rs) (0 + begins rs) (omega arith)
       ∙ rw (zero-add (length rs), zero-add (begins rs))
 
-  pub wrong_walk : (n : ℕ) (rs : List Record) (rest : List ℕ) → f ≡ bytes_of rs ++ rest → FineFrom 0 0 rs → Wrong (length rs) (begins rs) rest n → walk_of f ≡ Faulty n (length rs)
-  wrong_walk n rs rest e h w =
+  pub wrong_walk : (r : Reason) (rs : List Record) (rest : List ℕ) → f ≡ bytes_of rs ++ rest → FineFrom 0 0 rs → Wrong (length rs) (begins rs) rest r → walk_of f ≡ faulty r (length rs)
+  wrong_walk r rs rest e h w =
       let at = length (bytes_of rs) in
       let D : drop at f ≡ rest = rw zero-add at (after f 0 (bytes_of rs) rest e) in
       let l : at < length f = omega (arith, some_rest w, room f at rest D (some_rest w)) in
       walk_all f
       ∙ rows_walk rs rest 0 0 0 e h
       ∙ rw (zero-add at, zero-add (length rs), zero-add (begins rs))
-      (walk_stop f at (length rs) (begins rs) l n (wrong_asked f B at (length rs) (begins rs) (rw D w)) (not_zero w))
+      (walk_stop f at (length rs) (begins rs) l r (wrong_asked f B at (length rs) (begins rs) (rw D w)))
 
 -- ---- one row at most
 pub rows_unique : (rs rs' : List Record) (k b k' b' : ℕ) → length (bytes_of rs) < 2 ^ 16 → FineFrom k b rs → FineFrom k' b' rs' → bytes_of rs ≡ bytes_of rs' → rs ≡ rs'

@@ -1,12 +1,15 @@
 -- Refusals 2 to 5 by computing, on the bytes and a position: the record that starts there, what is wrong with it, and the walk in turn.
 -- Nothing here has to be believed: proofs/Asked and proofs/Walking join it to Faults.
-use Rattle.std.specs.Prelude.{ℕ, zero, suc, ◌+◌, ◌*◌, List, [], ◌∷◌, Bool, true, cond, ◌&&◌, ◌||◌, length, get_or, ltb, leb, eqb}
+use Rattle.std.specs.Prelude.{ℕ, zero, suc, ◌+◌, ◌*◌, List, [], ◌∷◌, Bool, true, cond, ◌&&◌, ◌||◌, length, get_or, ltb, leb, eqb, Option, Some, None, Result, Ok, Err}
 use Rattle.expr.specs.Bytes.{Got, parse}
 use Rattle.records.specs.Records.{Target, cell, entry, Record, names, begin, end, assign, if, else, fi, from, loop, until, call, uncall, skip, row, sum, is_begin}
 use Rattle.records.specs.Faults.{word}
-use Rattle.records.specs.Walk.{stride, kind_at}
+use Rattle.records.specs.Walk.{offsets, kind_at}
+pub use Rattle.records.specs.Kinds.{tests, calls}
 use Rattle.records.specs.declared.Walked.{Walked}
-use Rattle.records.specs.declared.Walked.TheVariants.{Fine, Faulty}
+use Rattle.refusals.specs.declared.Reason.{Reason}
+use Rattle.refusals.specs.declared.Reason.TheVariants.{Cut, UnknownKind, Malformed, Oversize}
+use Rattle.refusals.specs.declared.Refusal.{Refusal}
 
 -- The first byte after the record.
 abbrev pub stop : List ℕ → ℕ → ℕ
@@ -56,12 +59,6 @@ abbrev pub record_at : List ℕ → ℕ → Record
 record_at f at = record_as (kind_at f at) f at
 
 -- ---- bodies, by the kinds that share a form
-abbrev pub tests : ℕ → Bool
-tests k = eqb k 5 || (eqb k 7 || (eqb k 8 || eqb k 10))
-
-abbrev pub calls : ℕ → Bool
-calls k = eqb k 11 || eqb k 12
-
 abbrev pub names_body : List ℕ → ℕ → Bool
 names_body f at = eqb (word f at) (8 + 2 * word f (at + 6))
 
@@ -118,20 +115,27 @@ cut_at f at = ltb (length f) (at + 4) || (ltb (word f at) 4 || ltb (length f) (s
 unfoldable pub unknown_at : List ℕ → ℕ → Bool
 unknown_at f at = eqb (kind_at f at) 0 || ltb 13 (kind_at f at)
 
--- "Then each record in turn is asked 2, 3, 4, 5": the number, or 0 where nothing is wrong.
-unfoldable pub wrong_at : List ℕ → ℕ → ℕ → ℕ → ℕ
+-- "Then each record in turn is asked 2, 3, 4, 5": the reason, or none where nothing is wrong.
+unfoldable pub wrong_at : List ℕ → ℕ → ℕ → ℕ → Option Reason
 wrong_at f at k b =
-    cond (cut_at f at) 2 (cond (unknown_at f at) 3 (cond (formed_at f at) (cond (sized_at f at k b) 0 5) 4))
+    cond (cut_at f at) (Some Cut)
+    (cond (unknown_at f at) (Some UnknownKind) (cond (formed_at f at) (cond (sized_at f at k b) None (Some Oversize)) (Some Malformed)))
 
--- ---- the walk, from a position after k records of which b are BEGIN
-abbrev pub walked : ℕ → ℕ → Walked → Walked
-walked n k w = cond (eqb n 0) w (Faulty n k)
+-- ---- the walk over the positions of the records left, after k records of which b are BEGIN
+abbrev pub fine : ℕ → ℕ → Result Walked Refusal
+fine k b = Ok (record { records = k; procedures = b })
 
-unfoldable pub walk_from : ℕ → List ℕ → ℕ → ℕ → ℕ → Walked
-walk_from zero f at k b = Fine k b
-walk_from (suc n) f at k b =
-    cond (ltb at (length f)) (walked (wrong_at f at k b) k (walk_from n f (at + stride f at) (suc k) (b + is_begin (kind_at f at)))) (Fine k b)
+abbrev pub faulty : Reason → ℕ → Result Walked Refusal
+faulty r k = Err (record { reason = r; label = k })
 
--- The counts of records and BEGINs, or the number and the record that is first at fault.
-unfoldable pub walk_of : List ℕ → Walked
-walk_of f = walk_from (length f) f 0 0 0
+abbrev pub walked : Option Reason → ℕ → Result Walked Refusal → Result Walked Refusal
+walked None k w = w
+walked (Some r) k w = faulty r k
+
+unfoldable pub walk_over : List ℕ → List ℕ → ℕ → ℕ → Result Walked Refusal
+walk_over f [] k b = fine k b
+walk_over f (at ∷ ats) k b = walked (wrong_at f at k b) k (walk_over f ats (suc k) (b + is_begin (kind_at f at)))
+
+-- The counts of records and BEGINs, or the reason and the record that is first at fault.
+unfoldable pub walk_of : List ℕ → Result Walked Refusal
+walk_of f = walk_over f (offsets f) 0 0

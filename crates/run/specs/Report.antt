@@ -6,8 +6,6 @@ use Rattle.program.specs.Says.{fault, counts, Accepts, Says}
 use Rattle.moves.specs.Places.{down}
 use Rattle.moves.specs.Step.{start}
 use Rattle.moves.specs.Runs.{Ran, stop_number, run}
-use Rattle.machine.specs.declared.Told.{Told}
-use Rattle.machine.specs.Answers.{Gives}
 use Rattle.print.specs.Zeros.{noughts}
 use Rattle.print.specs.Lines.{Text, refused_line, steps_line, at_line, cell_lines}
 
@@ -38,7 +36,3 @@ Counted f cells = (r : ℕ) × (p : ℕ) × Says f (counts r p cells)
 -- and the store has so many zeros
 abbrev pub Zeroed : List ℕ → List ℤ → Type 0
 Zeroed f σ = (n : ℕ) × (σ ≡ noughts n) × Counted f n
-
--- the number that an answer gives
-abbrev pub Numbered : Told → ℕ → Type 0
-Numbered told r = (n k : ℕ) → Gives told n k → r ≡ n

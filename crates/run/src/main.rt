@@ -3,14 +3,10 @@
 
 ghost use Rattle.std.specs.Prelude.{◌≡◌};
 ghost use Rattle.print.specs.Rows.{put_all, after_all};
-ghost use Rattle.print.specs.Zeros.{noughts};
-ghost use Rattle.run.specs.Report.{report_lines, Reports, Counted, Zeroed, Numbered};
+ghost use Rattle.run.specs.Report.{report_lines, Reports, Counted, Zeroed};
 
-use files::Got;
-use machine::Told;
 use place::Place;
 use print::TEXT;
-use program::Checked;
 
 // One byte more than is allowed is enough to know that a file is too long.
 const ROOM: usize = 32769;
@@ -18,29 +14,6 @@ const ROOM: usize = 32769;
 const CELLS: usize = 2048;
 
 const STEPS: u32 = 1000000;
-
-fn no_file() -> [u8; ROOM] {
-    [0; ROOM]
-}
-
-fn no_text() -> [u8; TEXT] {
-    [0; TEXT]
-}
-
-fn zeros() -> [i32; CELLS]
-    ensures { result ≡ noughts 2048 }
-{
-    [0; CELLS]
-}
-
-fn reason(told: Told) -> u8
-    ensures { Numbered told result }
-{
-    match told {
-        Told::Done => 0,
-        Told::Refused(number, _) => number,
-    }
-}
 
 // The lines of a run.
 fn put_report(text: &mut [u8], steps: u32, reason: u8, place: Place, store: &[i32]) -> usize
@@ -57,19 +30,16 @@ fn walked(file: &[u8], store: &mut [i32], text: &mut [u8; TEXT]) -> usize
     requires { Zeroed file.now store.old }
     ensures { Reports file.now text.old text.new result }
 {
-    let begun = machine::start(file, false);
-    let first = begun.place;
-    let went = machine::run(file, first, store, STEPS);
-    let told = went.told;
-    let last = went.place;
-    put_report(text, went.steps, reason(told), last, store)
+    let first = machine::start(file, false).unwrap();
+    let ran = machine::run(file, first, store, STEPS);
+    put_report(text, ran.steps, print::reason(ran.told), ran.place, store)
 }
 
 fn ran(file: &[u8], cells: usize, text: &mut [u8; TEXT]) -> usize
     requires { Counted file.now cells }
     ensures { Reports file.now text.old text.new result }
 {
-    let mut store = zeros();
+    let mut store: [i32; CELLS] = words::full(0);
     walked(file, &mut store[..cells], text)
 }
 
@@ -78,25 +48,24 @@ fn report(file: &[u8], text: &mut [u8; TEXT]) -> usize
     ensures { Reports file.now text.old text.new result }
 {
     match program::check(file) {
-        Checked::Refused(number, label) => print::put_refused(text, 0, number, label),
-        Checked::Accepted(_, _, cells) => ran(file, cells, text),
+        Err(refusal) => print::put_refused(text, 0, refusal.reason.number(), refusal.label),
+        Ok(counts) => ran(file, counts.cells, text),
     }
 }
 
 fn answer(rt: &HostRuntime, file: &[u8]) {
-    let mut text = no_text();
+    let mut text: [u8; TEXT] = words::full(0);
     let n = report(file, &mut text);
-    files::say(rt, b"run", &text[..n]);
+    // What failed has been complained of.
+    let _ = files::say(rt, b"run", &text[..n]);
 }
 
 fn main(rt: HostRuntime) {
-    let mut file = no_file();
+    let mut file: [u8; ROOM] = words::full(0);
     match files::read_open(&mut rt.stdin(), &mut file) {
-        Got::Failed(error) => {
+        Err(error) => {
             files::complain(&rt, b"run", b"standard input", error);
         }
-        Got::All(n) => {
-            answer(&rt, &file[..n]);
-        }
+        Ok(n) => answer(&rt, &file[..n]),
     }
 }

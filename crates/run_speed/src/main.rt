@@ -2,21 +2,17 @@
 // The answer goes to standard output, the clock before and after the run to standard error: no test can hold a time.
 #![tactic(auto)]
 
-use files::Got;
-use machine::Told;
 use place::Place;
-use program::Checked;
-use std::io::{Print, Result};
+use refusals::Refusal;
+use std::io::Print;
 use std::time::{CpuClock, Duration};
+use std::{fmt, io};
 
 // More bytes than any accepted file has.
 const ROOM: usize = 65536;
 
 // The most cells that a store has.
 const CELLS: usize = 2048;
-
-// As many steps as can be asked for.
-const MOST: u32 = 4294967295;
 
 // Zeros, made apart so that no goal carries them.
 fn empty_file() -> [u8; ROOM] {
@@ -27,71 +23,43 @@ fn empty_store() -> [i32; CELLS] {
     [0; CELLS]
 }
 
-fn say(to: &impl Print, word: &[u8]) {
-    // Nobody is left to tell where the stream is closed.
-    let _ = to.write_all(word);
-}
-
-fn number(to: &impl Print, n: u64) {
-    let _ = to.print(n);
-}
+// A look at the clock.
+#[derive(Drop)]
+struct Look(io::Result<Duration>);
 
 // Microseconds; nothing where the clock could not be read.
-fn time(to: &impl Print, read: Result<Duration>) {
-    if let Ok(used) = read {
-        let _ = to.print(used.as_micros());
-    }
-}
-
-fn tell(out: &impl Print, told: Told, steps: u32) {
-    match told {
-        Told::Done => {
-            say(out, b"steps ");
-            number(out, steps as u64);
-            say(out, b" stop 0\n");
-        }
-        Told::Refused(why, record) => {
-            say(out, b"steps ");
-            number(out, steps as u64);
-            say(out, b" stop ");
-            number(out, why as u64);
-            say(out, b"\n");
+impl fmt::Display for Look {
+    fn fmt<W: fmt::Write>(&self, f: &mut fmt::Formatter<W>) -> fmt::Result {
+        match &self.0 {
+            Ok(used) => write!(f, "{}", used.as_micros()),
+            Err(_) => Ok(()),
         }
     }
 }
 
-// `clock BEFORE AFTER`: processor time in microseconds.
-fn clock(err: &impl Print, before: Result<Duration>, after: Result<Duration>) {
-    say(err, b"clock ");
-    time(err, before);
-    say(err, b" ");
-    time(err, after);
-    say(err, b"\n");
+fn tell(out: &impl Print, told: Result<(), Refusal>, steps: u32) -> io::Result<()> {
+    let stop = match told {
+        Ok(()) => 0,
+        Err(r) => r.reason.number(),
+    };
+    println!(out; "steps {steps} stop {stop}")
 }
 
 // The run between two looks at the clock.
 fn timed(rt: &HostRuntime, file: &[u8], place: Place, store: &mut [i32]) {
-    let before = rt.process_cpu_time();
-    let r = machine::run(file, place, store, MOST);
-    let after = rt.process_cpu_time();
-    let told = r.told;
-    tell(&rt.stdout(), told, r.steps);
-    clock(&rt.stderr(), before, after);
+    let before = Look(rt.process_cpu_time());
+    let r = machine::run(file, place, store, u32::MAX);
+    let after = Look(rt.process_cpu_time());
+    // Nobody is left to tell where a stream is closed.
+    let _ = tell(rt, r.told, r.steps);
+    let _ = eprintln!(rt; "clock {before} {after}");
 }
 
-// How many cells a store of the file has: none where the file is refused, and `run` then says so.
-fn cells(file: &[u8]) -> usize {
-    match program::check(file) {
-        Checked::Accepted(records, procedures, cells) => cells,
-        Checked::Refused(why, record) => 0,
-    }
-}
-
+// A refused file is run too, from no place and with no cell: `run` then says so.
 fn started(rt: &HostRuntime, file: &[u8]) {
     let mut store = empty_store();
-    let n = cells(file);
-    let s = machine::start(file, false);
-    let place = s.place;
+    let n = program::check(file).map_or(0, |counts| counts.cells);
+    let place = machine::start(file, false).unwrap_or(Place::blank());
     if n <= CELLS {
         timed(rt, file, place, &mut store[..n]);
     }
@@ -100,8 +68,8 @@ fn started(rt: &HostRuntime, file: &[u8]) {
 fn main(rt: HostRuntime) {
     let mut file = empty_file();
     match files::read_open(&mut rt.stdin(), &mut file) {
-        Got::All(n) => started(&rt, &file[..n]),
-        Got::Failed(error) => {
+        Ok(n) => started(&rt, &file[..n]),
+        Err(error) => {
             files::complain(&rt, b"run_speed", b"standard input", error);
         }
     }

@@ -10,7 +10,7 @@ use Rattle.saved.proofs.save.Reads as save
 
 module _ (κs : Lfts 3) where
   pub read_determined : (a : _) (r r' : _) (s s' : _) → read.Post κs a r s → read.Post κs a r' s' → AllBytes a.0.now → (r ≡ r') × (s.1.1.0.now ≡ s'.1.1.0.now)
-  read_determined a r r' s s' p q B = let z = read_one B p q in (λ i. record { told = z.0 i; place = z.1 i }, z.2)
+  read_determined a r r' s s' p q B = read_one a.0.now B a.1.0.now _ r r' _ _ p q
 
   pub save_determined : (a : _) (r r' : _) (s s' : _) → save.Post κs a r s → save.Post κs a r' s' → AllBytes a.0.now → (r ≡ r') × (s.1.1.1.0.now ≡ s'.1.1.1.0.now)
-  save_determined a r r' s s' p q B = let z = save_one B p q in (λ i. record { told = z.0 i; written = z.1 i }, z.2)
+  save_determined a r r' s s' p q B = save_one a.0.now B _ _ _ r r' _ _ p q

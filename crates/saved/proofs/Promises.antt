@@ -13,26 +13,23 @@ use lib.Seq.{take_at, drop_at}
 use native.Mathlib.Omega.{arith}
 use mir.Syntax.{w32}
 use mir.Val.{SFits}
+use Rattle.std.proofs.Common.{Result, Ok, Err}
+use Rattle.refusals.specs.declared.Refusal.{Refusal}
 use Rattle.codes.specs.Codes.{AllBytes}
 use Rattle.place.specs.declared.Place.{Place as Held}
 use Rattle.place.specs.Places.{Place}
 use Rattle.place.specs.Slots.{held, seen}
 use Rattle.place.proofs.Held.{held_injective, seen_held}
-use Rattle.order.specs.Trees.{Tree, cells}
+use Rattle.order.specs.Trees.{Tree}
 use Rattle.moves.specs.Stores.{Store}
 use Rattle.fits.proofs.Few.{frames_few}
 use Rattle.session.specs.Session.{encode, Fit}
 use Rattle.session.specs.Parts.{LabelsFit}
 use Rattle.session.proofs.Reading.{encode_injective}
 use Rattle.session.proofs.Round.{labels_in}
-use Rattle.machine.specs.declared.Told.{Told}
-use Rattle.machine.specs.declared.Told.TheVariants.{Done}
 use Rattle.machine.specs.Answers as machine
-use Rattle.machine.specs.Answers.{Gives, done}
-use Rattle.machine.proofs.Giving.{gives_done, not_none, before_some}
-use Rattle.saved.specs.Answers.{ReadSays, refused, found, SaveSays, short, saved}
+use Rattle.saved.specs.Answers.{ReadSays, Saved, SaveSays}
 use Rattle.program.proofs.Few.{cells_few}
-use Rattle.saved.proofs.Giving.{read_some}
 use Rattle.saved.proofs.OneAnswer.{read_one, save_one}
 
 -- what a struct and a store have from their types: the numbers are u16, the cells i32
@@ -56,48 +53,45 @@ ready_fit {q = q} {t = t} {p} T R =
     }
 
 -- the bytes that a save wrote
-record Wrote (f : List ℕ) (q : Held) (σ : Store) (bytes : List ℕ) : Type 0 where
-  t : Tree
-  p : Place
-  ready : machine.Ready f q σ t p
-  is : bytes ≡ encode p σ
+wrote : {f : List ℕ} {q : Held} {σ : Store} {buf : List ℕ} {n : ℕ} {out : List ℕ} → (S : Saved f q σ buf n out) → take n out ≡ encode S.place σ
+wrote {σ = σ} {n = n} S = ap (take n) S.bytes ∙ take_at (encode S.place σ) _ n (sym S.count)
 
-wrote : {f : List ℕ} {q : Held} {σ : Store} {buf : List ℕ} {a : Told} {n : ℕ} {out : List ℕ} → SaveSays f q σ buf a n out → Gives a 0 0 → Wrote f q σ (take n out)
-wrote (refused b e₁ e₂ e₃) g = not_none (before_some b) e₁ g
-wrote (short R h e₁ e₂ e₃) g = not_none {n = 23} (omega arith) e₁ g
-wrote {σ = σ} {n = n} (saved {t} {p} R h e₁ e₂ e₃) g =
-    record { t = t; p = p; ready = R; is = ap (take n) e₃ ∙ take_at (encode p σ) _ n (sym e₂) }
+module _ (f : List ℕ) (B : AllBytes f) (q : Held) (σ : Store) where
+  pub saved_reads_back : (buf out : List ℕ) (n : ℕ) (st st' : Store) (a : Result Held Refusal) → Typed q σ → SaveSays f q σ buf (Ok n) out
+      → ReadSays f (take n out) st a st' → length st ≡ length σ → (a ≡ Ok q) × (st' ≡ σ)
+  saved_reads_back buf out n st st' a T S y l =
+      let z : ReadSays f (take n out) st (Ok q) σ = record { tree = S.tree; place = S.place; reads = record { fit = ready_fit T S.ready; file = wrote S }; ready = S.ready; lent = l ∙ S.ready.sized } in
+      read_one f B (take n out) st a (Ok q) st' σ y z
 
-module _ {f : List ℕ} (B : AllBytes f) {q : Held} {σ : Store} where
-  pub saved_reads_back : {buf out : List ℕ} {n : ℕ} {st st' : Store} {a a' : Told} {q' : Held} → Typed q σ → SaveSays f q σ buf a n out → Gives a 0 0
-      → ReadSays f (take n out) st a' q' st' → length st ≡ length σ → Gives a' 0 0 × (q' ≡ q) × (st' ≡ σ)
-  saved_reads_back {out = out} {n} {st} T x g y l =
-      let w = wrote x g in
-      let z : ReadSays f (take n out) st Done q σ = found (record { fit = ready_fit T w.ready; file = w.is }) w.ready (l ∙ w.ready.sized) done in
-      let u = read_one B y z in (gives_done u.0, u.1, u.2)
+  pub read_then_saved : (s buf out : List ℕ) (st : Store) (a : Result ℕ Refusal) → ReadSays f s st (Ok q) σ → SaveSays f q σ buf a out → length s ≤ length buf
+      → (a ≡ Ok (length s)) × (out ≡ s ++ drop (length s) buf)
+  read_then_saved s buf out st a F y h =
+      let z : SaveSays f q σ buf (Ok (length s)) (s ++ drop (length s) buf) =
+      record {
+        tree = F.tree;
+        place = F.place;
+        ready = F.ready;
+        room = subst (λ (x : List ℕ). length x ≤ length buf) F.reads.file h;
+        count = ap length F.reads.file;
+        bytes = ap (λ (x : List ℕ). x ++ drop (length x) buf) F.reads.file;
+      } in
+      save_one f B q σ buf a (Ok (length s)) out _ y z
 
-  pub read_then_saved : {s buf out : List ℕ} {st : Store} {a a' : Told} {n : ℕ} → ReadSays f s st a q σ → Gives a 0 0 → SaveSays f q σ buf a' n out → length s ≤ length buf
-      → Gives a' 0 0 × (n ≡ length s) × (out ≡ s ++ drop (length s) buf)
-  read_then_saved (refused b e₁ e₂ e₃) g y h = not_none (read_some b) e₁ g
-  read_then_saved {s} {buf} (found {t} {p} r R l e) g y h =
-      let z : SaveSays f q σ buf Done (length s) (s ++ drop (length s) buf) =
-      saved R (subst (λ (x : List ℕ). length x ≤ length buf) r.file h) done (ap length r.file) (ap (λ (x : List ℕ). x ++ drop (length x) buf) r.file) in
-      let u = save_one B y z in (gives_done u.0, u.1, u.2)
+pub one_file : {f : List ℕ} {q : Held} {σ : Store} {s s' : List ℕ} {st st' : Store} → ReadSays f s st (Ok q) σ → ReadSays f s' st' (Ok q) σ → s ≡ s'
+one_file {σ = σ} F F' =
+    let z : F.place ≡ F'.place = held_injective F.place F'.place (sym F.ready.holds ∙ F'.ready.holds) in F.reads.file ∙ ap (λ p. encode p σ) z ∙ sym F'.reads.file
 
-pub one_file : {f : List ℕ} {q : Held} {σ : Store} {s s' : List ℕ} {st st' : Store} {a a' : Told} → ReadSays f s st a q σ → Gives a 0 0 → ReadSays f s' st' a' q σ → Gives a' 0 0 → s ≡ s'
-one_file (refused b e₁ e₂ e₃) g y g' = not_none (read_some b) e₁ g
-one_file (found r R l e) g (refused b e₁ e₂ e₃) g' = not_none (read_some b) e₁ g'
-one_file {σ = σ} (found {p = p} r R l e) g (found {p = p'} r' R' l' e') g' =
-    let z : p ≡ p' = held_injective p p' (sym R.holds ∙ R'.holds) in r.file ∙ ap (λ p. encode p σ) z ∙ sym r'.file
+pub files_differ : {f : List ℕ} {q q' : Held} {σ σ' : Store} {buf buf' out out' : List ℕ} {n n' : ℕ} → Typed q σ → Typed q' σ'
+    → SaveSays f q σ buf (Ok n) out → SaveSays f q' σ' buf' (Ok n') out' → take n out ≡ take n' out' → (q ≡ q') × (σ ≡ σ')
+files_differ {σ = σ} {σ'} T T' S S' e =
+    let z = encode_injective S.place S'.place σ σ' (ready_fit T S.ready) (ready_fit T' S'.ready) (sym (wrote S) ∙ e ∙ wrote S') in
+    (S.ready.holds ∙ ap held z.0 ∙ sym S'.ready.holds, z.1)
 
-pub files_differ : {f : List ℕ} {q q' : Held} {σ σ' : Store} {buf buf' out out' : List ℕ} {n n' : ℕ} {a a' : Told} → Typed q σ → Typed q' σ'
-    → SaveSays f q σ buf a n out → Gives a 0 0 → SaveSays f q' σ' buf' a' n' out' → Gives a' 0 0 → take n out ≡ take n' out' → (q ≡ q') × (σ ≡ σ')
-files_differ {σ = σ} {σ'} T T' x g y g' e =
-    let w = wrote x g in let w' = wrote y g' in
-    let z = encode_injective w.p w'.p σ σ' (ready_fit T w.ready) (ready_fit T' w'.ready) (sym w.is ∙ e ∙ w'.is) in
-    (w.ready.holds ∙ ap held z.0 ∙ sym w'.ready.holds, z.1)
+-- "the bytes written, 0 if refused"
+abbrev pub written : Result ℕ Refusal → ℕ
+written (Ok n) = n
+written (Err r) = 0
 
-pub saved_beyond : {f : List ℕ} {q : Held} {σ : Store} {buf out : List ℕ} {n : ℕ} {a : Told} → SaveSays f q σ buf a n out → drop n out ≡ drop n buf
-saved_beyond {n = n} (refused b e₁ e₂ e₃) = ap (drop n) e₃
-saved_beyond {n = n} (short R h e₁ e₂ e₃) = ap (drop n) e₃
-saved_beyond {σ = σ} {buf} {n = n} (saved {p = p} R h e₁ e₂ e₃) = ap (drop n) e₃ ∙ drop_at (encode p σ) _ n (sym e₂) ∙ ap (λ (k : ℕ). drop k buf) (sym e₂)
+pub saved_beyond : (f : List ℕ) (q : Held) (σ : Store) (buf out : List ℕ) (a : Result ℕ Refusal) → SaveSays f q σ buf a out → drop (written a) out ≡ drop (written a) buf
+saved_beyond f q σ buf out (Err r) x = x.1
+saved_beyond f q σ buf out (Ok n) S = ap (drop n) S.bytes ∙ drop_at (encode S.place σ) _ n (sym S.count) ∙ ap (λ (k : ℕ). drop k buf) (sym S.count)

@@ -1,14 +1,14 @@
 -- What reading and saving a session answer, in document 01's words: for all bytes, every struct of a place, every store and buffer.
-use Rattle.std.specs.Prelude.{ℕ, ◌≤◌, ◌<◌, List, ◌++◌, ◌≡◌, length, drop}
+use Rattle.std.specs.Prelude.{ℕ, ◌≤◌, ◌<◌, List, ◌++◌, ◌≡◌, length, drop, Result, Ok, Err}
+use Rattle.refusals.specs.declared.Refusal.{Refusal}
+use Rattle.refusals.specs.Numbers.{number_of}
 use Rattle.place.specs.declared.Place.{Place as Held}
-use Rattle.place.specs.Methods.{blank_of}
 use Rattle.order.specs.Trees.{Tree, cells}
 use Rattle.program.specs.Says.{fault, Accepts, Says}
 use Rattle.moves.specs.Places.{Place, Fits}
 use Rattle.moves.specs.Stores.{Store}
 use Rattle.session.specs.Session.{encode, Reads}
-use Rattle.machine.specs.declared.Told.{Told}
-use Rattle.machine.specs.Answers.{Gives, Before, Ready}
+use Rattle.machine.specs.Answers.{Before, Ready}
 
 -- "Session .. calls .. check the program first, then 22 (reading), 20, 21": the number, and the record. The bytes s are malformed where they
 -- are the file of no place and store; 20 is asked of the cells in the file and of the store σ that is lent for them.
@@ -18,15 +18,34 @@ pub data ReadBefore (f s : List ℕ) (σ : Store) : ℕ → ℕ → Type 0 where
   size : {t : Tree} {p : Place} {zs : Store} → Accepts f t → Reads s p zs → ((length zs ≡ cells t) × (length σ ≡ cells t) → ⊥) → ReadBefore f s σ 20 0
   place : {t : Tree} {p : Place} {zs : Store} → Accepts f t → Reads s p zs → length zs ≡ cells t → length σ ≡ cells t → (Fits t p → ⊥) → ReadBefore f s σ 21 0
 
--- "A refused reading returns no place and leaves the lent store untouched." Else the struct holds the place of the file and the store its cells.
-pub data ReadSays (f s : List ℕ) (σ : Store) (told : Told) (q : Held) (σ' : Store) : Type 0 where
-  refused : {n k : ℕ} → ReadBefore f s σ n k → Gives told n k → q ≡ blank_of → σ' ≡ σ → ReadSays f s σ told q σ'
-  found : {t : Tree} {p : Place} → Reads s p σ' → Ready f q σ' t p → length σ ≡ cells t → Gives told 0 0 → ReadSays f s σ told q σ'
+-- What is found: the struct holds the place of the file, and the store its cells.
+pub record Found (f s : List ℕ) (σ : Store) (q : Held) (σ' : Store) : Type 0 where
+  pub tree : Tree
+  pub place : Place
+  pub reads : Reads s place σ'
+  pub ready : Ready f q σ' tree place
+  pub lent : length σ ≡ cells tree
 
--- "then .. 20, 21, 23 (saving)"; "A save answers the bytes written, 0 if refused."; "Bytes of the lent buffer after the written ones keep their values."
-pub data SaveSays (f : List ℕ) (q : Held) (σ : Store) (buf : List ℕ) (told : Told) (written : ℕ) (buf' : List ℕ) : Type 0 where
-  refused : {n k : ℕ} → Before f q σ n k → Gives told n k → written ≡ 0 → buf' ≡ buf → SaveSays f q σ buf told written buf'
-  short : {t : Tree} {p : Place} → Ready f q σ t p → length buf < length (encode p σ) → Gives told 23 0 → written ≡ 0 → buf' ≡ buf
-      → SaveSays f q σ buf told written buf'
-  saved : {t : Tree} {p : Place} → Ready f q σ t p → length (encode p σ) ≤ length buf → Gives told 0 0 → written ≡ length (encode p σ)
-      → buf' ≡ encode p σ ++ drop (length (encode p σ)) buf → SaveSays f q σ buf told written buf'
+-- "A refused reading returns no place and leaves the lent store untouched."
+abbrev pub ReadSays : List ℕ → List ℕ → Store → Result Held Refusal → Store → Type 0
+ReadSays f s σ (Err r) σ' = ReadBefore f s σ (number_of r.reason) r.label × (σ' ≡ σ)
+ReadSays f s σ (Ok q) σ' = Found f s σ q σ'
+
+-- "then .. 20, 21, 23 (saving)".
+pub data SaveBefore (f : List ℕ) (q : Held) (σ : Store) (buf : List ℕ) : ℕ → ℕ → Type 0 where
+  before : {n k : ℕ} → Before f q σ n k → SaveBefore f q σ buf n k
+  short : {t : Tree} {p : Place} → Ready f q σ t p → length buf < length (encode p σ) → SaveBefore f q σ buf 23 0
+
+-- What is saved: "Bytes of the lent buffer after the written ones keep their values."
+pub record Saved (f : List ℕ) (q : Held) (σ : Store) (buf : List ℕ) (written : ℕ) (buf' : List ℕ) : Type 0 where
+  pub tree : Tree
+  pub place : Place
+  pub ready : Ready f q σ tree place
+  pub room : length (encode place σ) ≤ length buf
+  pub count : written ≡ length (encode place σ)
+  pub bytes : buf' ≡ encode place σ ++ drop (length (encode place σ)) buf
+
+-- "A save answers the bytes written"; a refused one leaves the buffer.
+abbrev pub SaveSays : List ℕ → Held → Store → List ℕ → Result ℕ Refusal → List ℕ → Type 0
+SaveSays f q σ buf (Err r) buf' = SaveBefore f q σ buf (number_of r.reason) r.label × (buf' ≡ buf)
+SaveSays f q σ buf (Ok n) buf' = Saved f q σ buf n buf'

@@ -1,3 +1,2 @@
 -- The definitions of `saved`.
 pub mod Answers
-pub mod Whole

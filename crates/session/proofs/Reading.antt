@@ -18,14 +18,13 @@ use Rattle.codes.specs.Numbers.{cell_at}
 use Rattle.codes.proofs.Digits.{number16}
 use Rattle.codes.proofs.Rows.{short_lt, short_bytes, cell_fits, cell_bytes_lem, cell_back, two_bytes}
 use Rattle.place.specs.Places.{Frame, frame_kind, frame_label, Place}
-use Rattle.place.specs.Slots.{dir_number}
 use Rattle.place.proofs.Held.{kind_of_lem, label_of, dir_of_lem, dir_back, frame_back, dir_small, kind_small}
 use Rattle.session.specs.Session.{encode_store, encode, Fit, Reads}
 use Rattle.session.specs.Parts.{encode_frames, encode_head, encode_cells, LabelsFit, CellsFit}
-use Rattle.session.specs.Reader.{Reading, malformed, found, head_ok, kinds_ok, store_ok, frames_at, cells_from, place_at, cells_start, cell_count, cells_at, reading}
+use Rattle.session.specs.Reader.{Reading, malformed, found, kinds_ok, frames_at, cells_from, place_at, cells_start, cell_count, cells_at, reading}
 use Rattle.session.specs.Answers.{is_found}
 use Rattle.session.proofs.Rows.{word_at, word_after}
-use Rattle.session.proofs.Cases.{both, Right, head_whole, store_whole, all_there, found_is}
+use Rattle.session.proofs.Cases.{both, HeadRight, StoreRight, Right, all_found, found_is}
 use Rattle.session.proofs.Saving.{length_cells}
 use Rattle.session.proofs.Frames.{length_frames_at, length_encode_frames, length_encode}
 
@@ -178,15 +177,16 @@ module _ (p : Place) (zs : List ℤ) (y : Fit p zs) where
   cells_length : word16 file (12 + 4 * m) ≡ 4 + 4 * length zs
   cells_length = let x : 4 + 4 * length zs < 2 ^ 16 = omega (arith, y.count) in sym (word_at file (12 + 4 * m)) ∙ ap (λ (l : List ℕ). word16 l 0) tail_is ∙ number16 (4 + 4 * length zs) x
 
-  head_found : head_ok file ≡ true
-  head_found =
-      let e = length_encode p zs in
-      sym (head_whole file 32 refl refl (dir_number p.d) (dir_small p.d) refl 0 refl refl m y.frames (sym count_is) (12 + 4 * m) refl (sym length_is) (omega (arith, e)))
+  kinds_there : kinds_ok (word16 file 10) (drop 12 file) ≡ true
+  kinds_there = rw count_is (kinds_found p.frames (encode_store zs))
 
-  store_found : store_ok file (12 + 4 * m) ≡ true
-  store_found =
+  head_there : HeadRight file
+  head_there = let e = length_encode p zs in record { kind = refl; direction = dir_small p.d; spare = refl; count = omega (arith, count_is, y.frames); whole = omega (arith, count_is, length_is); room = omega (arith, count_is, e) }
+
+  store_there : StoreRight file (12 + 4 * m)
+  store_there =
       let e = length_encode p zs in
-      sym (store_whole file (12 + 4 * m) 33 refl (sym (sym (word_after file (12 + 4 * m)) ∙ ap (λ (l : List ℕ). word16 l 2) tail_is)) (4 + 4 * length zs) (omega (arith, e)) (sym cells_length) (omega arith))
+      record { kind = sym (word_after file (12 + 4 * m)) ∙ ap (λ (l : List ℕ). word16 l 2) tail_is; whole = omega (arith, e, cells_length); cells = omega (arith, cells_length) }
 
   place_found : place_at file ≡ p
   place_found = rw (count_is, number16 p.a y.a, number16 p.b y.b, dir_back p.d, frames_found p.frames (encode_store zs) y.labels)
@@ -203,7 +203,7 @@ module _ (p : Place) (zs : List ℤ) (y : Fit p zs) where
 
   pub reading_encode : reading (encode p zs) ≡ found p zs
   reading_encode =
-      all_there file true refl (sym head_found) m (sym count_is) true refl (sym (kinds_found p.frames (encode_store zs))) true refl (sym store_found)
+      all_found file (record { head = head_there; kinds = kinds_there; store = rw count_is store_there })
       ∙ (λ i. found (place_found i) (cells_there i))
 
 pub reading_complete : (s : List ℕ) (p : Place) (zs : List ℤ) → Reads s p zs → reading s ≡ found p zs
@@ -211,7 +211,7 @@ reading_complete s p zs y = ap reading y.file ∙ reading_encode p zs y.fit
 
 -- ---- malformed
 pub malformed_reads : (s : List ℕ) (p : Place) (zs : List ℤ) → reading s ≡ malformed → Reads s p zs → ⊥
-malformed_reads s p zs e y = let x = reading_complete s p zs y in let z : ◌≡◌ {A = ℕ} 0 1 = cc in omega arith
+malformed_reads s p zs e y = let x = reading_complete s p zs y in cc
 
 pub reads_nothing : (s : List ℕ) → AllBytes s → ((p : Place) (zs : List ℤ) → Reads s p zs → ⊥) → reading s ≡ malformed
 reads_nothing s B none = go (reading s) refl

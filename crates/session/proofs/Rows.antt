@@ -1,17 +1,17 @@
 -- Rows of four bytes: what a turn of each loop over them adds, and where it ends. Assumes nothing.
 --     word_at, word_after, cell_at_lem     the numbers of a row, from its first byte
---     kinds_stop, kinds_go, kinds_end  the loop over the kinds
+--     kinds_all                        the test of all kinds
 --     fill_go, fill_end                the loop that puts a column into slots, from the innermost frame out
 use mathlib.Core.Path.{◌≡◌, refl, sym, ap, ◌∙◌}
-use mathlib.Core.Bool.{Bool, true, false, cond}
+use mathlib.Core.Bool.{Bool, true, false, cond, ◌&&◌}
 use mathlib.Core.List.{List, [], ◌∷◌, ◌++◌, reverse, reverse-cons}
-use Prim.Native.Nat.{ℕ, zero, suc, ◌+◌, ◌-◌, ◌≤◌, ◌<◌}
+use Prim.Native.Nat.{ℕ, zero, suc, ◌+◌, ◌*◌, ◌-◌, ◌≤◌, ◌<◌}
 use native.Mathlib.Nat.{add-zero}
 use native.Mathlib.Omega.{arith}
 use lib.Dec.{leb}
 use lib.ListN.{length, get_or, set, drop, replicate, length-replicate, replicate-append-replicate}
 use lib.Seq.{get_or-drop, drop-drop, set_at, append_snoc}
-use borrow.Author.Tests.{le-leb, lt-leb}
+use Rattle.std.specs.List.{list_all, range_with_len}
 use Rattle.codes.specs.Codes.{word16}
 use Rattle.codes.specs.Numbers.{cell_at}
 use Rattle.place.specs.Slots.{slots}
@@ -33,28 +33,17 @@ module _ (s : List ℕ) (p : ℕ) where
   pub cell_at_lem : cell_at (drop p s) 0 ≡ cell_at s p
   cell_at_lem = rw (byte_at, get_or-drop p s 1 0, get_or-drop p s 2 0, get_or-drop p s 3 0)
 
-pub less : (n i : ℕ) → i < n → n - i ≡ suc (n - (i + 1))
-less n i h = omega arith
+both_are : (b x : Bool) → (b && x) ≡ cond b x false
+both_are true x = refl
+both_are false x = refl
 
-pub none : (n i : ℕ) → n ≤ i → n - i ≡ 0
-none n i h = omega arith
-
--- ---- the loop over the kinds, n - i of them left from p
-module _ (s : List ℕ) (n i p : ℕ) (all : Bool) (e : all ≡ kinds_ok (n - i) (drop p s)) where
-  module _ (h : i < n) where
-    turn : all ≡ cond (leb (word16 s p) 4) (kinds_ok (n - (i + 1)) (drop (p + 4) s)) false
-    unfolding kinds_ok
-    turn = e ∙ ap (λ (m : ℕ). kinds_ok m (drop p s)) (less n i h) ∙ rw (word_at s p, drop-drop 4 p s)
-
-    pub kinds_stop : (k : ℕ) → 4 < k → k ≡ word16 s p → false ≡ all
-    kinds_stop k t x = sym (turn ∙ rw (← x, lt-leb k 4 t))
-
-    pub kinds_go : (k : ℕ) → k ≤ 4 → k ≡ word16 s p → all ≡ kinds_ok (n - (i + 1)) (drop (p + 4) s)
-    kinds_go k t x = turn ∙ rw (← x, le-leb k 4 t)
-
-  pub kinds_end : n ≤ i → true ≡ all
-  unfolding kinds_ok
-  kinds_end h = sym (e ∙ ap (λ (m : ℕ). kinds_ok m (drop p s)) (none n i h))
+-- ---- the kinds of n frames, the first of number a and at p
+pub kinds_all : (s : List ℕ) (n a p : ℕ) → p ≡ 12 + 4 * a → list_all (λ i. leb (word16 s (12 + 4 * i)) 4) (range_with_len a n) ≡ kinds_ok n (drop p s)
+unfolding kinds_ok
+kinds_all s zero a p e = refl
+kinds_all s (suc n) a p e =
+    let d : p + 4 ≡ 12 + 4 * (a + 1) = omega arith in
+    rw (kinds_all s n (a + 1) (p + 4) d, word_at s p, drop-drop 4 p s, e) (both_are (leb (word16 s (12 + 4 * a)) 4) _)
 
 -- ---- the loop that fills slots, m of them left
 unfoldable pub fill : ℕ → List ℕ → List ℕ → List ℕ
@@ -89,12 +78,13 @@ one_fill : (m : ℕ) (s acc : List ℕ) → fill (suc m) s acc ≡ fill m (drop 
 unfolding fill
 one_fill m s acc = refl
 
-module _ (b acc goal : List ℕ) (m p : ℕ) (e : goal ≡ fill m (drop p b) acc) where
-  pub fill_go : 0 < m → (v : ℕ) → v ≡ word16 b p → goal ≡ fill (m - 1) (drop (p + 4) b) (set acc (m - 1) v)
-  fill_go h v x =
-      let k : m ≡ suc (m - 1) = omega arith in
-      e ∙ ap (λ (m : ℕ). fill m (drop p b) acc) k ∙ one_fill (m - 1) (drop p b) acc ∙ rw (word_at b p, drop-drop 4 p b, ← x)
+module _ (b acc goal : List ℕ) (n i p : ℕ) (e : goal ≡ fill (n - i) (drop p b) acc) where
+  pub fill_go : i < n → (v q : ℕ) → v ≡ word16 b p → q ≡ p + 4 → goal ≡ fill (n - (i + 1)) (drop q b) (set acc (n - 1 - i) v)
+  fill_go h v q x y =
+      let k : n - i ≡ suc (n - (i + 1)) = omega arith in
+      let j : n - 1 - i ≡ n - (i + 1) = omega arith in
+      e ∙ ap (λ (m : ℕ). fill m (drop p b) acc) k ∙ one_fill (n - (i + 1)) (drop p b) acc ∙ rw (word_at b p, drop-drop 4 p b, ← x, y, j)
 
-  pub fill_end : m ≡ 0 → acc ≡ goal
+  pub fill_end : n ≤ i → acc ≡ goal
   unfolding fill
-  fill_end h = sym (e ∙ ap (λ (m : ℕ). fill m (drop p b) acc) h)
+  fill_end h = let k : n - i ≡ 0 = omega arith in sym (e ∙ ap (λ (m : ℕ). fill m (drop p b) acc) k)

@@ -1,32 +1,27 @@
 -- What reading and saving answer, in the terms that the code has in hand. Assumes nothing.
 use mathlib.Core.Path.{◌≡◌, refl, sym, ap, ◌∙◌}
-use mathlib.Core.Bool.{Bool, true, false, not, cond}
+use mathlib.Core.Bool.{Bool, true, false}
 use mathlib.Core.List.{List, ◌++◌, append-nil}
-use Prim.Native.Nat.{ℕ, zero, suc, ◌+◌, ◌*◌, ◌-◌, ◌/◌, ◌≤◌, ◌<◌}
+use Prim.Native.Nat.{ℕ, zero, suc, ◌+◌, ◌*◌, ◌≤◌, ◌<◌}
 use native.Mathlib.Omega.{arith}
 use lib.Dec.{leb}
 use lib.IntN.{ℤ}
-use lib.ListN.{length, get_or, drop}
+use lib.ListN.{length, drop}
 use lib.Seq.{sets, sets-eq, drop-length}
-use borrow.Author.Tests.{le-leb, lt-leb, eq-eqb, ne_eqb, leb-true, leb-false, not-true, not-false}
+use borrow.Author.Tests.{le-leb, lt-leb, eq-eqb, ne_eqb, leb-true, leb-false}
+use Rattle.std.proofs.Common.{Option, Some, None}
 use Rattle.codes.specs.Codes.{word16}
 use Rattle.place.specs.declared.Place.{Place as Held}
-use Rattle.place.specs.Slots.{slots, Plain, Decides, seen, plain_of}
-use Rattle.place.specs.Methods.{blank_of}
-use Rattle.place.proofs.Held.{decided, plain_of_lem, plain_count, yes, length_frames}
+use Rattle.place.specs.Slots.{Plain, seen, plain_of}
+use Rattle.place.proofs.Held.{decided, plain_of_lem, plain_count, length_frames}
 use Rattle.session.specs.Session.{encode, encode_store}
 use Rattle.session.specs.Reader.{Reading, malformed, found, place_at, cells_at, cell_count, cells_from, reading}
-use Rattle.session.specs.Answers.{is_found, place_of, cells_of, filled, size_of, saved_of, column, held_at}
+use Rattle.session.specs.Answers.{is_found, place_of, count_of, filled, size_of, saved_of, written_of, laid, held_at}
 use Rattle.session.proofs.Writing.{on}
 use Rattle.session.proofs.Cases.{Right, found_is}
 use Rattle.session.proofs.Frames.{held_at_lem, place_bytes, encode_seen, length_encode, length_slot_bytes}
 
 -- ---- reading
-pub held_at_is : (s : List ℕ) (d a b n : ℕ) (ks ls : List ℕ) → d ≡ get_or s 4 0 → a ≡ word16 s 6 → b ≡ word16 s 8 → n ≡ word16 s 10
-    → ks ≡ slots (column n (drop 12 s)) → ls ≡ slots (column n (drop 14 s)) → ◌≡◌ {A = Held} (record { direction = d; a = a; b = b; count = n; kinds = ks; labels = ls }) (held_at s)
-unfolding held_at
-held_at_is s d a b n ks ls p q r t u v = rw (u, v, p, q, r, t)
-
 pub length_cells : (n : ℕ) (s : List ℕ) → length (cells_from n s) ≡ n
 unfolding cells_from
 length_cells zero s = refl
@@ -39,148 +34,122 @@ all_of st zs e =
     sets-eq zs st 0 (omega arith) ∙ ap (λ (k : ℕ). zs ++ drop k st) at ∙ ap (λ (r : List ℤ). zs ++ r) (drop-length st) ∙ append-nil zs
 
 -- of no file
-not_found : (r : Reading) → false ≡ is_found r → r ≡ malformed
+pub not_found : (r : Reading) → false ≡ is_found r → r ≡ malformed
 not_found malformed e = refl
-not_found (found p zs) e = absurd (let z : ◌≡◌ {A = ℕ} 0 1 = cc in omega arith)
+not_found (found p zs) e = absurd cc
 
-module _ (s : List ℕ) (w : Bool) where
-  module _ (t : not w ≡ true) (e : w ≡ is_found (reading s)) where
-    nothing : reading s ≡ malformed
-    nothing = not_found (reading s) (sym (not-true w t) ∙ e)
+pub not_counted : (r : Reading) → None ≡ count_of r → r ≡ malformed
+not_counted malformed e = refl
+not_counted (found p zs) e = absurd cc
 
-    pub place_none : (h : Held) → h ≡ blank_of → h ≡ place_of (reading s)
-    place_none h x = x ∙ ap place_of (sym nothing)
+counted : (r : Reading) (n : ℕ) → Some n ≡ count_of r → true ≡ is_found r
+counted malformed n e = absurd cc
+counted (found p zs) n e = refl
 
-    pub cells_none : 0 ≡ length (cells_of (reading s))
-    cells_none = ap (λ (r : Reading). length (cells_of r)) (sym nothing)
+module _ (s : List ℕ) where
+  module _ (e : false ≡ is_found (reading s)) where
+    pub place_none : None ≡ place_of (reading s)
+    place_none = ap place_of (sym (not_found (reading s) e))
 
-    pub fill_none : (st : List ℤ) → st ≡ filled (reading s) st
-    fill_none st = ap (λ (r : Reading). filled r st) (sym nothing)
+    pub count_none : None ≡ count_of (reading s)
+    count_none = ap count_of (sym (not_found (reading s) e))
 
-  module _ (t : not w ≡ false) (e : w ≡ is_found (reading s)) where
+  module _ (e : true ≡ is_found (reading s)) where
     it : (reading s ≡ found (place_at s) (cells_at s)) × Right s
-    it = found_is s (sym (not-false w t) ∙ e)
+    it = found_is s e
 
-    pub right : Right s
-    right = it.1
+    pub few_frames : word16 s 10 ≤ 1104
+    few_frames = it.1.head.count
 
-    pub place_is : (h : Held) → h ≡ held_at s → h ≡ place_of (reading s)
-    place_is h x = x ∙ held_at_lem s it.1 ∙ ap place_of (sym it.0)
+    pub cells_within : 16 + 4 * word16 s 10 ≤ length s
+    cells_within = it.1.head.room
 
-    pub cells_are : (n : ℕ) → n ≡ word16 s 10 → (length s - (16 + 4 * n)) / 4 ≡ length (cells_of (reading s))
-    cells_are n x = ap (λ (m : ℕ). (length s - (16 + 4 * m)) / 4) x ∙ sym (length_cells (cell_count s) _) ∙ ap (λ (r : Reading). length (cells_of r)) (sym it.0)
+    pub place_is : Some (held_at s) ≡ place_of (reading s)
+    place_is = ap Some (held_at_lem s it.1) ∙ ap place_of (sym it.0)
 
-    module _ (st : List ℤ) (n : ℕ) (x : n ≡ word16 s 10) where
-      count_is : length (cells_at s) ≡ (length s - (16 + 4 * n)) / 4
-      count_is = length_cells (cell_count s) _ ∙ ap (λ (m : ℕ). (length s - (16 + 4 * m)) / 4) (sym x)
+    pub count_is : Some (cell_count s) ≡ count_of (reading s)
+    count_is = ap Some (sym (length_cells (cell_count s) _)) ∙ ap count_of (sym it.0)
 
-      pub fill_other : ((length s - (16 + 4 * n)) / 4 ≡ length st → ⊥) → st ≡ filled (reading s) st
-      fill_other h =
-          let ne : length (cells_at s) ≡ length st → ⊥ = λ y. h (sym count_is ∙ y) in
-          sym (ap (λ (r : Reading). filled r st) it.0 ∙ rw (ne_eqb _ _ ne))
+  pub fill_none : None ≡ count_of (reading s) → (st : List ℤ) → st ≡ filled (reading s) st
+  fill_none e st = ap (λ (r : Reading). filled r st) (sym (not_counted (reading s) e))
 
-      pub fill_is : (length s - (16 + 4 * n)) / 4 ≡ length st → (out : List ℤ) → out ≡ sets st 0 (cells_from (length st) (drop (16 + 4 * n) s)) → out ≡ filled (reading s) st
-      fill_is h out y =
-          let same : length (cells_at s) ≡ length st = count_is ∙ h in
-          let k : length st ≡ cell_count s = sym h ∙ ap (λ (m : ℕ). (length s - (16 + 4 * m)) / 4) x in
-          y ∙ (λ i. sets st 0 (cells_from (k i) (drop (16 + 4 * x i) s))) ∙ all_of st (cells_at s) same
-          ∙ sym (ap (λ (r : Reading). filled r st) it.0 ∙ rw (eq-eqb _ _ same))
+  module _ (n : ℕ) (e : Some n ≡ count_of (reading s)) where
+    there : true ≡ is_found (reading s)
+    there = counted (reading s) n e
+
+    pub cells_start_few : 16 + 4 * word16 s 10 ≤ 65536
+    cells_start_few = omega (arith, few_frames there)
+
+    n_is : n ≡ cell_count s
+    n_is = let x : ◌≡◌ {A = Option ℕ} (Some n) (Some (cell_count s)) = e ∙ sym (count_is there) in cc
+
+    cells_are : length (cells_at s) ≡ n
+    cells_are = length_cells (cell_count s) _ ∙ sym n_is
+
+    module _ (st : List ℤ) where
+      pub fill_other : (n ≡ length st → ⊥) → st ≡ filled (reading s) st
+      fill_other h = sym (ap (λ (r : Reading). filled r st) (it there).0 ∙ rw (ne_eqb _ _ (λ y. h (sym cells_are ∙ y))))
+
+      pub fill_is : n ≡ length st → (m : ℕ) → m ≡ word16 s 10 → (out : List ℤ) → out ≡ sets st 0 (cells_from (length st) (drop (16 + 4 * m) s)) → out ≡ filled (reading s) st
+      fill_is h m x out y =
+          y ∙ ap (λ (m : ℕ). sets st 0 (cells_from (length st) (drop (16 + 4 * m) s))) x ∙ ap (λ (k : ℕ). sets st 0 (cells_from k (drop (16 + 4 * word16 s 10) s))) (sym h ∙ n_is) ∙ all_of st (cells_at s) (cells_are ∙ h)
+          ∙ sym (ap (λ (r : Reading). filled r st) (it there).0 ∙ rw (eq-eqb _ _ (cells_are ∙ h)))
 
 -- ---- saving
-module _ (n m : ℕ) where
-  pub size_frames : 1104 < n → 0 ≡ size_of n m
-  unfolding size_of
-  size_frames h = rw (lt-leb n 1104 h)
+-- what `put_session` answers and leaves
+abbrev pub Puts : Option ℕ → List ℕ → List ℕ → Option (List ℕ) → Type 0
+Puts r out buf f = (r ≡ written_of f) × (out ≡ laid buf f)
 
-  module _ (h : n ≤ 1104) where
-    pub size_cells : 16382 < m → 0 ≡ size_of n m
-    unfolding size_of
-    size_cells k = rw (le-leb n 1104 h, lt-leb m 16382 k)
-
-    pub size_is : m ≤ 16382 → 16 + 4 * n + 4 * m ≡ size_of n m
-    unfolding size_of
-    size_is k = rw (le-leb n 1104 h, le-leb m 16382 k)
-
-    -- and the size tells which
-    pub size_zero : size_of n m ≡ 0 → 16382 < m
-    unfolding size_of
-    size_zero e = go (leb m 16382) refl (rw (le-leb n 1104 h) at e)
-      where
-        go : (b : Bool) → leb m 16382 ≡ b → cond b (16 + 4 * n + 4 * m) 0 ≡ 0 → 16382 < m
-        go true x y = absurd (omega arith)
-        go false x y = leb-false m 16382 x
-
-    pub size_some : (size_of n m ≡ 0 → ⊥) → m ≤ 16382
-    size_some e = go (leb m 16382) refl
-      where
-        go : (b : Bool) → leb m 16382 ≡ b → m ≤ 16382
-        go true x = leb-true m 16382 x
-        go false x = absurd (e (sym (size_cells (leb-false m 16382 x))))
-
-pub ruleset sizes = (size_frames, size_cells, size_is)
-
--- the two parts of the contract, where nothing is written and where the file is
-abbrev Saved : ℕ → List ℕ → List ℕ → List ℕ → Type 0
-Saved r out buf f = (r ≡ length f) × (out ≡ sets buf 0 f)
-
-module _ (h : Held) (zs : List ℤ) (buf : List ℕ) (w : Bool) (d : Decides w (Plain h)) where
-  test : plain_of h ≡ w
-  test = decided (Plain h) (plain_of h) w (plain_of_lem h) d
-
-  pub saved_unplain : not w ≡ true → Saved 0 buf buf (saved_of h zs buf)
+module _ (h : Held) (zs : List ℤ) (buf : List ℕ) where
+  pub puts_unplain : (Plain h → ⊥) → Puts None buf buf (saved_of h zs buf)
   unfolding saved_of
-  saved_unplain t = rw (test, not-true w t) (refl, refl)
+  puts_unplain n = rw (decided (Plain h) (plain_of h) false (plain_of_lem h) n) (refl, refl)
 
-  module _ (t : not w ≡ false) where
-    y : Plain h
-    y = yes w d t
-
+  module _ (y : Plain h) where
     is_plain : plain_of h ≡ true
-    is_plain = test ∙ not-false w t
+    is_plain = decided (Plain h) (plain_of h) true (plain_of_lem h) y
 
     pub plain_room : h.count ≤ 1104
     plain_room = plain_count h y
 
-    pub saved_cells : 16382 < length zs → Saved 0 buf buf (saved_of h zs buf)
+    few : length zs ≤ 16382 → size_of h.count (length zs) ≡ Some (16 + 4 * h.count + 4 * length zs)
+    unfolding size_of
+    few k = rw (le-leb _ _ plain_room, le-leb _ _ k)
+
+    many : 16382 < length zs → size_of h.count (length zs) ≡ None
+    unfolding size_of
+    many k = rw (le-leb _ _ plain_room, lt-leb _ _ k)
+
+    pub puts_no_size : None ≡ size_of h.count (length zs) → Puts None buf buf (saved_of h zs buf)
     unfolding saved_of
-    saved_cells k = rw (is_plain, lt-leb (length zs) 16382 k) (refl, refl)
+    puts_no_size e = go (leb (length zs) 16382) refl
+      where
+        go : (b : Bool) → leb (length zs) 16382 ≡ b → Puts None buf buf (saved_of h zs buf)
+        go false x = rw (is_plain, x) (refl, refl)
+        go true x = let z = few (leb-true _ _ x) in absurd cc
 
-    module _ (k : length zs ≤ 16382) where
-      size_right : length (encode (seen h) zs) ≡ 16 + 4 * h.count + 4 * length zs
-      size_right = length_encode (seen h) zs ∙ ap (λ (n : ℕ). 16 + 4 * n + 4 * length zs) (length_frames h.count h.kinds h.labels)
+    module _ (size : ℕ) (e : Some size ≡ size_of h.count (length zs)) where
+      pub few_cells : length zs ≤ 16382
+      few_cells = go (leb (length zs) 16382) refl
+        where
+          go : (b : Bool) → leb (length zs) 16382 ≡ b → length zs ≤ 16382
+          go true x = leb-true _ _ x
+          go false x = let z = many (leb-false _ _ x) in absurd cc
 
-      pub saved_short : length buf < 16 + 4 * h.count + 4 * length zs → Saved 0 buf buf (saved_of h zs buf)
+      pub size_is : size ≡ 16 + 4 * h.count + 4 * length zs
+      size_is = let z = few few_cells in cc
+
+      length_is : length (encode (seen h) zs) ≡ size
+      length_is = length_encode (seen h) zs ∙ ap (λ (n : ℕ). 16 + 4 * n + 4 * length zs) (length_frames h.count h.kinds h.labels) ∙ sym size_is
+
+      pub puts_no_room : length buf < size → Puts None buf buf (saved_of h zs buf)
       unfolding saved_of
-      saved_short r =
-          let x : length buf < length (encode (seen h) zs) = omega (arith, size_right) in
-          rw (is_plain, le-leb (length zs) 16382 k, lt-leb (length (encode (seen h) zs)) (length buf) x) (refl, refl)
+      puts_no_room r = rw (is_plain, le-leb _ _ few_cells, length_is, lt-leb _ _ r) (refl, refl)
 
-      pub saved_whole : 16 + 4 * h.count + 4 * length zs ≤ length buf → (m out : List ℕ) → m ≡ sets buf 0 (place_bytes h) → out ≡ sets m (12 + 4 * h.count) (encode_store zs)
-          → Saved (16 + 4 * h.count + 4 * length zs) out buf (saved_of h zs buf)
+      pub puts_file : size ≤ length buf → (m out : List ℕ) → m ≡ sets buf 0 (place_bytes h) → out ≡ sets m (12 + 4 * h.count) (encode_store zs) → Puts (Some size) out buf (saved_of h zs buf)
       unfolding saved_of
-      saved_whole r m out p q =
-          let x : length (encode (seen h) zs) ≤ length buf = omega (arith, size_right) in
+      puts_file r m out p q =
+          let x : length (encode (seen h) zs) ≤ length buf = omega (arith, length_is) in
           let at : 12 + 4 * h.count ≡ 0 + length (place_bytes h) = omega (arith, length_slot_bytes h.count h.kinds h.labels) in
-          rw (is_plain, le-leb (length zs) 16382 k, le-leb (length (encode (seen h) zs)) (length buf) x)
-          (sym size_right, on buf m out 0 (12 + 4 * h.count) (place_bytes h) (encode_store zs) at p q ∙ ap (sets buf 0) (sym (encode_seen h zs y)))
-
-    -- by the size that the code has in hand
-    module _ (size : ℕ) (es : size ≡ size_of h.count (length zs)) where
-      pub saved_no_size : size ≡ 0 → Saved 0 buf buf (saved_of h zs buf)
-      saved_no_size e = saved_cells (size_zero h.count (length zs) plain_room (sym es ∙ e))
-
-      module _ (some : size ≡ 0 → ⊥) where
-        pub few_cells : length zs ≤ 16382
-        few_cells = size_some h.count (length zs) plain_room (λ e. some (es ∙ e))
-
-        pub size_sum : size ≡ 16 + 4 * h.count + 4 * length zs
-        size_sum = es ∙ sym (size_is h.count (length zs) plain_room few_cells)
-
-        pub saved_no_room : length buf < size → Saved 0 buf buf (saved_of h zs buf)
-        saved_no_room r = saved_short few_cells (omega (arith, size_sum))
-
-        pub saved_file : size ≤ length buf → (m out : List ℕ) → m ≡ sets buf 0 (place_bytes h) → out ≡ sets m (12 + 4 * h.count) (encode_store zs) → Saved size out buf (saved_of h zs buf)
-        saved_file r m out p q =
-            let x = saved_whole few_cells (omega (arith, size_sum)) m out p q in (size_sum ∙ x.0, x.1)
-
-pub ruleset readings = (held_at_is, place_none, cells_none, fill_none, place_is, cells_are, fill_other, fill_is)
+          rw (is_plain, le-leb _ _ few_cells, le-leb _ _ x)
+          (ap Some (sym length_is), on buf m out 0 (12 + 4 * h.count) (place_bytes h) (encode_store zs) at p q ∙ ap (sets buf 0) (sym (encode_seen h zs y)))

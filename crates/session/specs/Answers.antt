@@ -1,9 +1,9 @@
 -- What each function of `session` answers, and what it leaves in the lent slice. Assumes nothing: these are definitions.
-use Rattle.std.specs.Prelude.{ℕ, zero, suc, ◌+◌, ◌*◌, Bool, true, false, cond, List, [], ◌∷◌, ◌++◌, eqb, leb, ℤ, length, get_or, drop}
+use Rattle.std.specs.Prelude.{ℕ, zero, suc, ◌+◌, ◌*◌, Bool, true, false, cond, List, [], ◌∷◌, ◌++◌, eqb, leb, ℤ, length, get_or, drop, Option, Some, None}
+use Rattle.std.proofs.lemmas.List.Edits.{sets}
 use Rattle.codes.specs.Codes.{bytes16, word16}
 use Rattle.place.specs.declared.Place.{Place as Held}
 use Rattle.place.specs.Slots.{slots, held, seen, plain_of}
-use Rattle.place.specs.Methods.{blank_of}
 use Rattle.session.specs.Session.{encode}
 use Rattle.session.specs.Reader.{Reading, malformed, found}
 
@@ -12,14 +12,15 @@ abbrev pub is_found : Reading → Bool
 is_found malformed = false
 is_found (found p zs) = true
 
--- "a refused reading returns no place": the blank one
-abbrev pub place_of : Reading → Held
-place_of malformed = blank_of
-place_of (found p zs) = held p
+-- "a refused reading returns no place"
+abbrev pub place_of : Reading → Option Held
+place_of malformed = None
+place_of (found p zs) = Some (held p)
 
-abbrev pub cells_of : Reading → List ℤ
-cells_of malformed = []
-cells_of (found p zs) = zs
+-- how many cells there are
+abbrev pub count_of : Reading → Option ℕ
+count_of malformed = None
+count_of (found p zs) = Some (length zs)
 
 -- the cells of the file where it has as many as the store lent, else the store as it was
 abbrev pub filled : Reading → List ℤ → List ℤ
@@ -27,16 +28,25 @@ filled malformed st = st
 filled (found p zs) st = cond (eqb (length zs) (length st)) zs st
 
 -- ---- saving
--- the bytes of a file with so many frames and cells; 0 where there is none such
-unfoldable pub size_of : ℕ → ℕ → ℕ
-size_of n m = cond (leb n 1104) (cond (leb m 16382) (16 + 4 * n + 4 * m) 0) 0
+-- the bytes of a file with so many frames and cells, where there is one such
+unfoldable pub size_of : ℕ → ℕ → Option ℕ
+size_of n m = cond (leb n 1104) (cond (leb m 16382) (Some (16 + 4 * n + 4 * m)) None) None
 
--- the bytes that are saved: the file of the place held and the store, where there is one and the buffer has room, else none
-unfoldable pub saved_of : Held → List ℤ → List ℕ → List ℕ
+-- the bytes that are saved: the file of the place held and the store, where there is one and the buffer has room
+unfoldable pub saved_of : Held → List ℤ → List ℕ → Option (List ℕ)
 saved_of h zs buf =
     cond (plain_of h)
     (cond (leb (length zs) 16382)
-    (cond (leb (length (encode (seen h) zs)) (length buf)) (encode (seen h) zs) []) []) []
+    (cond (leb (length (encode (seen h) zs)) (length buf)) (Some (encode (seen h) zs)) None) None) None
+
+-- how many they are, and the buffer with them at its front
+abbrev pub written_of : Option (List ℕ) → Option ℕ
+written_of None = None
+written_of (Some file) = Some (length file)
+
+abbrev pub laid : List ℕ → Option (List ℕ) → List ℕ
+laid buf None = buf
+laid buf (Some file) = sets buf 0 file
 
 -- ---- of use inside
 -- the bytes of the first n slots, innermost frame first

@@ -3,157 +3,124 @@
 
 ghost use Rattle.std.specs.Prelude.{◌≡◌, ◌++◌, ◌+◌, ◌*◌, ◌≤◌, length, drop};
 ghost use Rattle.std.proofs.lemmas.List.Edits.{sets};
-ghost use Rattle.codes.specs.Codes.{bytes16, word16};
+ghost use Rattle.codes.specs.Codes.{bytes16};
 ghost use Rattle.place.specs.Slots.{slots};
 ghost use Rattle.session.specs.Session.{encode_store};
 ghost use Rattle.session.specs.Parts.{encode_head, encode_cells};
 ghost use Rattle.session.specs.Reader.{head_ok, kinds_ok, store_ok, cells_from, reading};
-ghost use Rattle.session.specs.Answers.{is_found, place_of, cells_of, filled, size_of, saved_of, slot_bytes, column, held_at};
+ghost use Rattle.session.specs.Answers.{is_found, place_of, count_of, filled, size_of, saved_of, written_of, laid, slot_bytes, column};
 
 use place::Place;
 
-// A file has at most so many frames.
+// A file has at most so many frames, and so many cells.
+// Stays: (a) beside place's own: the edit size_frames turns this one.
 const FRAMES: usize = 1104;
 
-// What stands behind the direction.
+const CELLS: usize = 16382;
+
+// The kinds of its two records.
+const PLACE_KIND: usize = 32;
+
+const STORE_KIND: usize = 33;
+
+// The bytes of a record's length and kind, of a PLACE record before its frames, of a frame and of a cell.
+const HEAD: usize = 4;
+
+const BEFORE_FRAMES: usize = 12;
+
+const FRAME: usize = 4;
+
+const CELL: usize = 4;
+
+// The last direction, what stands behind it, and the last kind of a frame.
+const UP: usize = 1;
+
 const SPARE: usize = 0;
+
+const CALL: usize = 4;
 
 // ---- reading
 
-// Whether what stands before the frames is as it must be, with room for the frames and four bytes more.
+// Whether what stands before the frames is as it must be, with room for the frames and a record's head more.
+#[tactic(auto, using(std::proofs::lemmas::Bool::Decides::nat_tests), unfolding(crate::specs::Reader::head_ok))]
 fn head_right(b: &[u8]) -> bool
     ensures { result ≡ head_ok b.now }
 {
-    if codes::short(b, 2) != 32 {
-        return false;
-    }
-    if 1 < codes::byte(b, 4) {
-        return false;
-    }
-    if codes::byte(b, 5) != SPARE {
-        return false;
-    }
     let n = codes::short(b, 10);
-    if FRAMES < n {
-        return false;
-    }
-    if codes::short(b, 0) != 12 + 4 * n {
-        return false;
-    }
-    if b.len() < 16 + 4 * n {
-        return false;
-    }
-    true
+    codes::short(b, 2) == PLACE_KIND
+        && codes::byte(b, 4) <= UP
+        && codes::byte(b, 5) == SPARE
+        && n <= FRAMES
+        && codes::short(b, 0) == BEFORE_FRAMES + FRAME * n
+        && HEAD + BEFORE_FRAMES + FRAME * n <= b.len()
 }
 
-// Whether each of n frames has a kind of at most 4.
+// Whether each of n frames has a kind of a frame.
 fn kinds_right(b: &[u8], n: usize) -> bool
     requires { n ≤ 65535 }
     ensures { result ≡ kinds_ok n (drop 12 b.now) }
 {
-    let mut i = 0;
-    let mut p = 12;
-    while i < n {
-        if 4 < codes::short(b, p) {
-            return false;
-        }
-        p += 4;
-        i += 1;
-    }
-    true
+    (0..n).all(|i| codes::short(b, BEFORE_FRAMES + FRAME * i) <= CALL)
 }
 
 // Whether a STORE record fills the rest from `at`, in whole cells.
+#[tactic(auto, using(std::proofs::lemmas::Bool::Decides::nat_tests), unfolding(crate::specs::Reader::store_ok))]
 fn store_right(b: &[u8], at: usize) -> bool
     requires { at ≤ length b.now }
     ensures { result ≡ store_ok b.now at }
 {
-    if codes::short(b, at + 2) != 33 {
-        return false;
-    }
     let len = codes::short(b, at);
-    if len != b.len() - at {
-        return false;
-    }
-    if len % 4 != 0 {
-        return false;
-    }
-    true
+    codes::short(b, at + 2) == STORE_KIND && len == b.len() - at && len % CELL == 0
 }
 
 // Whether the file is one: all of 22.
+#[tactic(auto, using(std::proofs::lemmas::Bool::Decides::nat_tests), unfolding(crate::specs::Reader::reading))]
 pub fn well_formed(saved: &[u8]) -> bool
     ensures { result ≡ is_found (reading saved.now) }
 {
-    if !head_right(saved) {
-        return false;
-    }
     let n = codes::short(saved, 10);
-    if !kinds_right(saved, n) {
-        return false;
-    }
-    if !store_right(saved, 12 + 4 * n) {
-        return false;
-    }
-    true
+    head_right(saved) && kinds_right(saved, n) && store_right(saved, BEFORE_FRAMES + FRAME * n)
 }
 
 // Slots of the u16 at `at` and every four bytes on, n of them, the first in slot n - 1.
-fn column_at(b: &[u8], at: usize, n: usize) -> [u16; 1104]
+fn column_at(b: &[u8], at: usize, n: usize) -> [u16; place::FRAMES]
     requires { (n ≤ 1104) × (at ≤ 65536) }
     ensures { result ≡ slots (column n (drop at b.now)) }
 {
-    let blank = Place::blank();
-    let mut s = blank.kinds;
-    let mut m = n;
-    let mut p = at;
-    while 0 < m {
-        m -= 1;
-        s[m] = codes::short(b, p) as u16;
-        p += 4;
+    let mut s = Place::blank().kinds;
+    for i in 0..n {
+        s[n - 1 - i] = codes::short(b, at + FRAME * i) as u16;
     }
     s
 }
 
-// The place of a file whose head is as it must be.
-fn placed(b: &[u8]) -> Place
-    requires { word16 b.now 10 ≤ 1104 }
-    ensures { result ≡ held_at b.now }
-{
-    let n = codes::short(b, 10);
-    let direction = codes::byte(b, 4) as u8;
-    let from = codes::short(b, 6) as u16;
-    let to = codes::short(b, 8) as u16;
-    let kinds = column_at(b, 12, n);
-    let labels = column_at(b, 14, n);
-    Place {
-        direction,
-        a: from,
-        b: to,
-        count: n,
-        kinds,
-        labels,
-    }
-}
-
-// The place of a file; the blank one where the file is malformed.
-pub fn place_in(saved: &[u8]) -> Place
+// The place of a file; none where the file is malformed.
+pub fn place_in(saved: &[u8]) -> Option<Place>
     ensures { result ≡ place_of (reading saved.now) }
 {
     if !well_formed(saved) {
-        return Place::blank();
+        return None;
     }
-    placed(saved)
+    let count = codes::short(saved, 10);
+    Some(Place {
+        direction: codes::byte(saved, 4) as u8,
+        a: codes::short(saved, 6) as u16,
+        b: codes::short(saved, 8) as u16,
+        count,
+        kinds: column_at(saved, BEFORE_FRAMES, count),
+        labels: column_at(saved, BEFORE_FRAMES + 2, count),
+    })
 }
 
-// The number of cells of a file; 0 where the file is malformed.
-pub fn cells_in(saved: &[u8]) -> usize
-    ensures { result ≡ length (cells_of (reading saved.now)) }
+// The number of cells of a file; none where the file is malformed.
+pub fn cells_in(saved: &[u8]) -> Option<usize>
+    ensures { result ≡ count_of (reading saved.now) }
 {
     if !well_formed(saved) {
-        return 0;
+        return None;
     }
-    (saved.len() - (16 + 4 * codes::short(saved, 10))) / 4
+    let at = HEAD + BEFORE_FRAMES + FRAME * codes::short(saved, 10);
+    Some((saved.len() - at) / CELL)
 }
 
 // Fills `out` with the cells from `at`.
@@ -161,13 +128,8 @@ fn copy_cells(b: &[u8], at: usize, out: &mut [i32])
     requires { at ≤ 65536 }
     ensures { out.new ≡ sets out.old 0 (cells_from (length out.old) (drop at b.now)) }
 {
-    let mut i = 0;
-    let mut p = at;
-    while i < out.len() {
-        let z = codes::long(b, p);
-        out[i] = z;
-        p += 4;
-        i += 1;
+    for (i, cell) in out.iter_mut().enumerate() {
+        *cell = codes::long(b, at + CELL * i);
     }
 }
 
@@ -175,29 +137,26 @@ fn copy_cells(b: &[u8], at: usize, out: &mut [i32])
 pub fn get_cells(saved: &[u8], store: &mut [i32])
     ensures { store.new ≡ filled (reading saved.now) store.old }
 {
-    if !well_formed(saved) {
-        return;
+    if let Some(n) = cells_in(saved)
+        && n == store.len()
+    {
+        let at = HEAD + BEFORE_FRAMES + FRAME * codes::short(saved, 10);
+        copy_cells(saved, at, store);
     }
-    let at = 16 + 4 * codes::short(saved, 10);
-    if (saved.len() - at) / 4 != store.len() {
-        return;
-    }
-    copy_cells(saved, at, store);
 }
 
 // ---- saving
 
-// The size of a file with so many frames and cells; 0 where there is none such.
-pub fn size_of(count: usize, cells: usize) -> usize
+// The size of a file with so many frames and cells; none where there is none such.
+#[tactic(auto, using(std::proofs::lemmas::Bool::Decides::nat_tests), unfolding(crate::specs::Answers::size_of))]
+pub fn size_of(count: usize, cells: usize) -> Option<usize>
     ensures { result ≡ size_of count cells }
 {
-    if FRAMES < count {
-        return 0;
+    if count <= FRAMES && cells <= CELLS {
+        Some(HEAD + BEFORE_FRAMES + FRAME * count + CELL * cells)
+    } else {
+        None
     }
-    if 16382 < cells {
-        return 0;
-    }
-    16 + 4 * count + 4 * cells
 }
 
 // Writes two u16 from `at`.
@@ -209,30 +168,25 @@ fn put_pair(buf: &mut [u8], at: usize, x: u16, y: u16)
     codes::put_short(buf, at + 2, y);
 }
 
-// Writes the frames of the first n slots from `at`, innermost first.
-fn put_frames(buf: &mut [u8], at: usize, kinds: &[u16; 1104], labels: &[u16; 1104], n: usize)
-    requires { (n ≤ 1104) × (at + 4 * n ≤ length buf.old) }
-    ensures { buf.new ≡ sets buf.old at (slot_bytes n kinds.now labels.now) }
+// Writes the PLACE record: its head, and the frames of the first slots, innermost first.
+fn put_place(buf: &mut [u8], h: &Place)
+    requires { (h.now.count ≤ 1104) × (12 + 4 * h.now.count ≤ length buf.old) }
+    ensures { buf.new ≡ sets buf.old 0 (encode_head h.now.direction h.now.a h.now.b h.now.count ++ slot_bytes h.now.count h.now.kinds h.now.labels) }
 {
-    let mut m = n;
-    let mut p = at;
-    while 0 < m {
-        m -= 1;
-        let k = kinds[m];
-        let l = labels[m];
-        put_pair(buf, p, k, l);
-        p += 4;
+    let n = h.count;
+    let size = BEFORE_FRAMES + FRAME * n;
+    put_pair(buf, 0, size as u16, PLACE_KIND as u16);
+    put_pair(buf, 4, u16::from(h.direction), h.a);
+    put_pair(buf, 8, h.b, n as u16);
+    for i in 0..n {
+        let slot = n - 1 - i;
+        put_pair(
+            buf,
+            BEFORE_FRAMES + FRAME * i,
+            h.kinds[slot],
+            h.labels[slot],
+        );
     }
-}
-
-// Writes what stands before the frames.
-fn put_head(buf: &mut [u8], d: u8, a: u16, b: u16, n: usize)
-    requires { (n ≤ 1104) × (12 ≤ length buf.old) }
-    ensures { buf.new ≡ sets buf.old 0 (encode_head d a b n) }
-{
-    put_pair(buf, 0, (12 + 4 * n) as u16, 32);
-    put_pair(buf, 4, d as u16, a);
-    put_pair(buf, 8, b, n as u16);
 }
 
 // Writes the cells from `at`.
@@ -240,29 +194,9 @@ fn put_cells(buf: &mut [u8], at: usize, store: &[i32])
     requires { at + 4 * length store.now ≤ length buf.old }
     ensures { buf.new ≡ sets buf.old at (encode_cells store.now) }
 {
-    let mut i = 0;
-    let mut p = at;
-    while i < store.len() {
-        let z = store[i];
-        codes::put_long(buf, p, z);
-        p += 4;
-        i += 1;
+    for (i, cell) in store.iter().enumerate() {
+        codes::put_long(buf, at + CELL * i, *cell);
     }
-}
-
-// Writes the PLACE record.
-fn put_place(buf: &mut [u8], h: Place)
-    requires { (h.count ≤ 1104) × (12 + 4 * h.count ≤ length buf.old) }
-    ensures { buf.new ≡ sets buf.old 0 (encode_head h.direction h.a h.b h.count ++ slot_bytes h.count h.kinds h.labels) }
-{
-    let n = h.count;
-    let d = h.direction;
-    let a = h.a;
-    let b = h.b;
-    put_head(buf, d, a, b, n);
-    let kinds = h.kinds;
-    let labels = h.labels;
-    put_frames(buf, 12, &kinds, &labels, n);
 }
 
 // Writes the STORE record from `at`.
@@ -270,27 +204,24 @@ fn put_store(buf: &mut [u8], at: usize, store: &[i32])
     requires { (length store.now ≤ 16382) × (at + (4 + 4 * length store.now) ≤ length buf.old) }
     ensures { buf.new ≡ sets buf.old at (encode_store store.now) }
 {
-    put_pair(buf, at, (4 + 4 * store.len()) as u16, 33);
-    put_cells(buf, at + 4, store);
+    let size = HEAD + CELL * store.len();
+    put_pair(buf, at, size as u16, STORE_KIND as u16);
+    put_cells(buf, at + HEAD, store);
 }
 
-// Saves a place and a store: the bytes written, 0 where there is no such file or the buffer is too short for it.
-pub fn put_session(h: Place, store: &[i32], buf: &mut [u8]) -> usize
-    ensures { (result ≡ length (saved_of h store.now buf.old))
-        × (buf.new ≡ sets buf.old 0 (saved_of h store.now buf.old)) }
+// Saves a place and a store: the bytes written, none where there is no such file or the buffer is too short for it.
+pub fn put_session(h: Place, store: &[i32], buf: &mut [u8]) -> Option<usize>
+    ensures { (result ≡ written_of (saved_of h store.now buf.old))
+        × (buf.new ≡ laid buf.old (saved_of h store.now buf.old)) }
 {
     if !place::plain(h) {
-        return 0;
+        return None;
     }
-    let n = h.count;
-    let size = size_of(n, store.len());
-    if size == 0 {
-        return 0;
-    }
+    let size = size_of(h.count, store.len())?;
     if buf.len() < size {
-        return 0;
+        return None;
     }
-    put_place(buf, h);
-    put_store(buf, 12 + 4 * n, store);
-    size
+    put_place(buf, &h);
+    put_store(buf, BEFORE_FRAMES + FRAME * h.count, store);
+    Some(size)
 }

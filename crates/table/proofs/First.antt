@@ -3,7 +3,6 @@ use Prim.Native.Nat.{ℕ, suc, ◌+◌, ◌*◌, ◌-◌, ◌%◌, ◌≤◌, �
 use mathlib.Core.Path.{◌≡◌, refl, ap, sym, ◌∙◌, subst, subst⁻¹}
 use mathlib.Core.List.{List, [], ◌∷◌}
 use mathlib.Core.Bool.{cond}
-use mathlib.Core.Logic.{◌⊎◌, inl, inr}
 use lib.Dec.{ltb}
 use native.Mathlib.Omega.{arith}
 use borrow.Author.Tests.{lt-ltb, le-ltb, ne_eqb}
@@ -15,7 +14,6 @@ use Rattle.moves.proofs.Linked.{Con, Rec, name_l, begin_l, end_l, set_l, skip_l,
 use Rattle.moves.proofs.Cuts.{Local, ProcOk, SimpleOk}
 use Rattle.moves.proofs.Locals.{either}
 use Rattle.table.specs.Table.{blank, noted, placed, frame_no, before, opener, outside, begun, ended, inside, opened, turned, closed, entered, next_owner, filled}
-use Rattle.table.proofs.Stores.{on_else}
 use Rattle.table.proofs.Facts.{Facts}
 use Rattle.table.proofs.Parts.{open_of, mid_of, tail_of, spot_of, Construct, cond_is, loop_is}
 use Rattle.table.proofs.Entries.{Adds, Away, low, high, Apart, labels_apart, apart, away_free, adds_five, adds_spot, spot_holds, before_noted}
@@ -267,17 +265,9 @@ module _ (t : Tree) (P : Prog) (n p : ℕ) (G : Facts t P n p) where
         (on_ended (rw e (omega arith)) (rw e) (subst (λ r. r < p) z (there r x (omega (arith, ok.lt)) (omega arith))) (l ∙ f)
         (owned_end x q k i (l ∙ f) F.owned))
 
-    statement : (ρ : Rec) → P.at x ≡ ρ → (k ≡ 4) ⊎ (11 ≤ k) → 0 ≡ head_of ρ → spot_of ρ ≡ 5120 → SimpleOk P x → Next (entered N x q k)
-    statement ρ e i eh es ok = put i
-      where
-        there' : (k ≡ 1 → ⊥) → (k ≡ 3 → ⊥) → Next (inside N x)
-        there' a b = on_inside (pos a) ok.en (eh ∙ ap head_of (sym e)) (ap spot_of e ∙ es) (onward b)
-
-        put : (k ≡ 4) ⊎ (11 ≤ k) → Next (entered N x q k)
-        put (inl a) = subst Next (on_else N (inside N x) x q k (λ z. omega arith) (λ z. omega arith) (λ z. omega arith) (λ z. omega arith) (λ z. omega arith)
-            (λ z. omega arith) (λ z. omega arith) (λ z. omega arith) (λ z. omega arith) refl) (there' (λ z. omega arith) (λ z. omega arith))
-        put (inr a) = subst Next (on_else N (inside N x) x q k (λ z. omega arith) (λ z. omega arith) (λ z. omega arith) (λ z. omega arith) (λ z. omega arith)
-            (λ z. omega arith) (λ z. omega arith) (λ z. omega arith) (λ z. omega arith) refl) (there' (λ z. omega arith) (λ z. omega arith))
+    statement : (ρ : Rec) (j : ℕ) → P.at x ≡ ρ → k ≡ j → entered N x q j ≡ inside N x → 3 < j → 0 ≡ head_of ρ → spot_of ρ ≡ 5120 → SimpleOk P x → Next (entered N x q k)
+    statement ρ j e i n h eh es ok =
+        on j i (rw n (on_inside (pos (λ z. omega arith)) ok.en (eh ∙ ap head_of (sym e)) (ap spot_of e ∙ es) (onward (λ z. omega arith))))
 
     record_on : (ρ : Rec) → P.at x ≡ ρ → Local t P ρ x → Next (entered N x q k)
     unfolding kind entered
@@ -286,10 +276,10 @@ module _ (t : Tree) (P : Prog) (n p : ℕ) (G : Facts t P n p) where
         on 1 i (on_outside (rw e (omega arith)) (rw e) (rw e) (onward (λ z. omega arith)))
     record_on (begin_l r) e l = begins r e l.0 l.1
     record_on (end_l r) e l = ends r e l.0 l.1
-    record_on (set_l o t ε) e l = statement (set_l o t ε) e (inl (kind_of_lem (set_l o t ε) e)) refl refl l.1
-    record_on skip_l e l = statement skip_l e (inr (omega (arith, kind_of_lem skip_l e))) refl refl l
-    record_on (call_l r) e l = statement (call_l r) e (inr (omega (arith, kind_of_lem (call_l r) e))) refl refl l.1
-    record_on (uncall_l r) e l = statement (uncall_l r) e (inr (omega (arith, kind_of_lem (uncall_l r) e))) refl refl l.1
+    record_on (set_l o t ε) e l = statement (set_l o t ε) 4 e (kind_of_lem (set_l o t ε) e) refl (omega arith) refl refl l.1
+    record_on skip_l e l = statement skip_l 13 e (kind_of_lem skip_l e) refl (omega arith) refl refl l
+    record_on (call_l r) e l = statement (call_l r) 11 e (kind_of_lem (call_l r) e) refl (omega arith) refl refl l.1
+    record_on (uncall_l r) e l = statement (uncall_l r) 12 e (kind_of_lem (uncall_l r) e) refl (omega arith) refl refl l.1
     record_on (if_l c) e l =
         let i = kind_of_lem (if_l c) e in
         on 5 i (on_opened 0 c (cond_is t P n p G c l.1) (onward (λ z. omega arith)) l.0 (rw e))

@@ -1,4 +1,5 @@
 -- The table: what its functions store, and the law of the table of a checked file.
+pub mod Numbers
 pub mod Stores
 pub mod Loops
 pub mod Facts

@@ -57,19 +57,23 @@ module _ (T₀ T U : List ℕ) (n x : ℕ) where
   unfolding shared
   shared_done h p = let z : n - x ≡ 0 = omega arith in sym (p ∙ rw z)
 
-  pub joined_on : x + 1 < n → U ≡ join T x → joined (pred n) 0 T₀ ≡ joined (pred n - x) x T → joined (pred n) 0 T₀ ≡ joined (pred n - (x + 1)) (x + 1) U
+  pub joined_on : 0 < x → x < n → U ≡ join T (x - 1) → joined (pred n) 0 T₀ ≡ joined (n - x) (pred x) T → joined (pred n) 0 T₀ ≡ joined (n - (x + 1)) (pred (x + 1)) U
   unfolding joined
-  joined_on h e p = let z : pred n - x ≡ suc (pred n - (x + 1)) = omega arith in p ∙ rw (z, e, add-one x)
+  joined_on z h e p =
+      let a : n - x ≡ suc (n - (x + 1)) = omega arith in
+      let b : x - 1 ≡ pred x = omega arith in
+      let c : pred (x + 1) ≡ suc (pred x) = omega arith in
+      p ∙ rw (a, e, b, c)
 
-  pub joined_done : n ≤ x + 1 → joined (pred n) 0 T₀ ≡ joined (pred n - x) x T → T ≡ joined (pred n) 0 T₀
+  pub joined_done : n ≤ x → joined (pred n) 0 T₀ ≡ joined (n - x) (pred x) T → T ≡ joined (pred n) 0 T₀
   unfolding joined
-  joined_done h p = let z : pred n - x ≡ 0 = omega arith in sym (p ∙ rw z)
+  joined_done h p = let z : n - x ≡ 0 = omega arith in sym (p ∙ rw z)
 
 pub shared_first : (n : ℕ) (T : List ℕ) → shared n 0 T ≡ shared (n - 0) 0 T
 shared_first n T = let z : n - 0 ≡ n = omega arith in rw z
 
-pub joined_first : (n : ℕ) (T : List ℕ) → joined (pred n) 0 T ≡ joined (pred n - 0) 0 T
-joined_first n T = let z : pred n - 0 ≡ pred n = omega arith in rw z
+pub joined_first : (n : ℕ) (T : List ℕ) → joined (pred n) 0 T ≡ joined (n - 1) (pred 1) T
+joined_first n T = let z : pred n ≡ n - 1 = omega arith in rw z
 
 pub table_whole : (f T U S W : List ℕ) (n : ℕ) → T ≡ blank → (n ≡ length (labelled f)) → U ≡ filled f (labelled f) 0 0 T → S ≡ shared n 0 U → W ≡ joined (pred n) 0 S
     → W ≡ table_of f

@@ -1,109 +1,137 @@
--- What the record functions store, case by case, over the table T before, a table U on the way and the record x.
-use Prim.Native.Nat.{ℕ, ◌+◌, ◌%◌}
-use mathlib.Core.Path.{◌≡◌, refl}
+-- What the record functions store, by the kind of a record.
+use Prim.Native.Nat.{ℕ, ◌+◌}
+use mathlib.Core.Path.{◌≡◌, refl, sym}
 use mathlib.Core.List.{List}
-use lib.ListN.{get_or, set, replicate}
+use mathlib.Core.Logic.{◌⊎◌, inl, inr}
+use lib.ListN.{get_or}
 use borrow.Author.Tests.{ne_eqb}
 use native.Mathlib.Numerals.{add-one}
-use Rattle.table.specs.Table.{blank, noted, placed, frame_no, before, opener, outside, begun, ended, inside, opened, turned, closed, entered, next_owner, share, from_above, from_below, join}
-
-pub blank_is : replicate 9344 0 ≡ blank
-unfolding blank
-blank_is = refl
-
-module _ (T U : List ℕ) (x : ℕ) where
-  pub noted_is : (q o k : ℕ) → set (set (set T x (o % 65536)) (1024 + x) k) (8192 + x) q ≡ noted T x q o k
-  unfolding noted
-  noted_is q o k = refl
-
-  pub outside_is : U ≡ placed T x 0 0 → U ≡ outside T x
-  unfolding outside
-  outside_is e = e
-
-  pub begun_is : (q : ℕ) → U ≡ outside T x → set U (9216 + q % 64) x ≡ begun T x q
-  unfolding begun
-  begun_is q e = rw e
-
-  pub ended_is : (q : ℕ) → U ≡ outside T x → set U (9280 + q % 64) x ≡ ended T x q
-  unfolding ended
-  ended_is q e = rw e
-
-  pub inside_is : U ≡ placed T x 0 (before T x) → U ≡ inside T x
-  unfolding inside
-  inside_is e = e
-
-  pub opened_is : (k : ℕ) → U ≡ placed T x x (frame_no k x) → U ≡ opened T x k
-  unfolding opened
-  opened_is k e = e
-
-  pub turned_is : (k h : ℕ) → U ≡ placed T x h (frame_no k h) → h ≡ opener T x → set U (3072 + h) x ≡ turned T x k
-  unfolding turned
-  turned_is k h e p = rw (e, p)
-
-  pub closed_is : (h : ℕ) → U ≡ placed T x h (before T h) → h ≡ opener T x → set U (4096 + h) x ≡ closed T x
-  unfolding closed
-  closed_is h e p = rw (e, p)
-
-pub ruleset stores = (blank_is, noted_is, outside_is, begun_is, ended_is, inside_is, opened_is, turned_is, closed_is)
+use Rattle.std.proofs.Common.{Some, None}
+use Rattle.records.specs.declared.kind.Kind.{Kind}
+use Rattle.records.specs.declared.kind.Kind.TheVariants.{Names, Begin, End, Set, If, Else, Fi, From, Loop, Until, Call, Uncall, Skip}
+use Rattle.records.specs.Kinds.{kind_number, kind_of}
+use Rattle.records.proofs.Thirteen.{kind_named}
+use Rattle.table.proofs.Numbers.{other_none, other_kind}
+use Rattle.table.specs.Table.{outside, begun, ended, inside, opened, turned, closed, entered, next_owner, from_above, from_below}
 
 -- ---- Each kind has its function.
 module _ (T U : List ℕ) (x q k : ℕ) where
-  pub on_kind : (j : ℕ) → k ≡ j → U ≡ entered T x q j → U ≡ entered T x q k
-  on_kind j p h = rw p h
+  module _ (κ : Kind) (e : kind_of k ≡ Some κ) where
+    on_kind : (ι : Kind) → κ ≡ ι → U ≡ entered T x q (kind_number ι) → U ≡ entered T x q k
+    on_kind ι i h = rw (← (kind_named k κ e).0, i) h
 
-  pub on_else : (k ≡ 1 → ⊥) → (k ≡ 2 → ⊥) → (k ≡ 3 → ⊥) → (k ≡ 5 → ⊥) → (k ≡ 6 → ⊥) → (k ≡ 7 → ⊥) → (k ≡ 8 → ⊥) → (k ≡ 9 → ⊥) → (k ≡ 10 → ⊥)
-      → U ≡ inside T x → U ≡ entered T x q k
-  unfolding entered
-  on_else p1 p2 p3 p5 p6 p7 p8 p9 p10 h =
-      rw (ne_eqb k 1 p1, ne_eqb k 2 p2, ne_eqb k 3 p3, ne_eqb k 5 p5, ne_eqb k 6 p6, ne_eqb k 7 p7, ne_eqb k 8 p8, ne_eqb k 9 p9, ne_eqb k 10 p10) h
+    pub on_names : κ ≡ Names → U ≡ outside T x → U ≡ entered T x q k
+    unfolding entered
+    on_names i h = on_kind Names i h
 
-pub ruleset kinds = (on_kind, on_else)
+    pub on_begin : κ ≡ Begin → U ≡ begun T x q → U ≡ entered T x q k
+    unfolding entered
+    on_begin i h = on_kind Begin i h
+
+    pub on_end : κ ≡ End → U ≡ ended T x q → U ≡ entered T x q k
+    unfolding entered
+    on_end i h = on_kind End i h
+
+    pub on_if : κ ≡ If → U ≡ opened T x 0 → U ≡ entered T x q k
+    unfolding entered
+    on_if i h = on_kind If i h
+
+    pub on_else : κ ≡ Else → U ≡ turned T x 1 → U ≡ entered T x q k
+    unfolding entered
+    on_else i h = on_kind Else i h
+
+    pub on_from : κ ≡ From → U ≡ opened T x 2 → U ≡ entered T x q k
+    unfolding entered
+    on_from i h = on_kind From i h
+
+    pub on_loop : κ ≡ Loop → U ≡ turned T x 3 → U ≡ entered T x q k
+    unfolding entered
+    on_loop i h = on_kind Loop i h
+
+    pub on_close : (κ ≡ Fi) ⊎ (κ ≡ Until) → U ≡ closed T x → U ≡ entered T x q k
+    unfolding entered
+    on_close (inl i) h = on_kind Fi i h
+    on_close (inr i) h = on_kind Until i h
+
+    pub on_inside : (κ ≡ Set) ⊎ ((κ ≡ Call) ⊎ ((κ ≡ Uncall) ⊎ (κ ≡ Skip))) → U ≡ inside T x → U ≡ entered T x q k
+    unfolding entered
+    on_inside (inl i) h = on_kind Set i h
+    on_inside (inr (inl i)) h = on_kind Call i h
+    on_inside (inr (inr (inl i))) h = on_kind Uncall i h
+    on_inside (inr (inr (inr i))) h = on_kind Skip i h
+
+  pub on_none : kind_of k ≡ None → U ≡ inside T x → U ≡ entered T x q k
+  unfolding entered kind_of
+  on_none e h =
+      rw (
+        ne_eqb k 1 (other_none k 1 Names refl e),
+        ne_eqb k 2 (other_none k 2 Begin refl e),
+        ne_eqb k 3 (other_none k 3 End refl e),
+        ne_eqb k 5 (other_none k 5 If refl e),
+        ne_eqb k 6 (other_none k 6 Else refl e),
+        ne_eqb k 7 (other_none k 7 Fi refl e),
+        ne_eqb k 8 (other_none k 8 From refl e),
+        ne_eqb k 9 (other_none k 9 Loop refl e),
+        ne_eqb k 10 (other_none k 10 Until refl e),
+      ) h
+
+pub ruleset kinds = (on_names, on_begin, on_end, on_if, on_else, on_from, on_loop, on_close, on_inside, on_none)
 
 -- ---- The procedure of the next record.
 module _ (q k : ℕ) where
-  pub owner_next : k ≡ 3 → q + 1 ≡ next_owner q k
-  owner_next e = rw (e, add-one q)
+  pub owner_none : kind_of k ≡ None → q ≡ next_owner q k
+  unfolding kind_of
+  owner_none e = rw (ne_eqb k 3 (other_none k 3 End refl e))
 
-  pub owner_same : (k ≡ 3 → ⊥) → q ≡ next_owner q k
-  owner_same e = rw (ne_eqb k 3 e)
+  module _ (κ : Kind) (e : kind_of k ≡ Some κ) where
+    pub owner_next : κ ≡ End → q + 1 ≡ next_owner q k
+    owner_next h = let z = (kind_named k κ e).0 in let u : k ≡ 3 = rw h at (sym z) in rw (u, add-one q)
 
-pub ruleset owners = (owner_next, owner_same)
+    pub owner_same : (κ ≡ End → ⊥) → q ≡ next_owner q k
+    unfolding kind_of
+    owner_same h = rw (ne_eqb k 3 (other_kind k 3 κ End refl e h))
+
+pub ruleset owners = (owner_none, owner_next, owner_same)
 
 -- ---- The links.
-module _ (T : List ℕ) (x w : ℕ) where
-  pub share_is : w ≡ get_or T (2048 + x) 0 → set (set T (3072 + x) (get_or T (3072 + w % 1024) 0)) (4096 + x) (get_or T (4096 + w % 1024) 0) ≡ share T x
-  unfolding share
-  share_is e = rw e
-
 module _ (T : List ℕ) (x : ℕ) where
-  abbrev kind_of : ℕ
-  kind_of = get_or T (1024 + x) 0
+  abbrev number : ℕ
+  number = get_or T (1024 + x) 0
 
-  pub above_else : kind_of ≡ 6 → get_or T (4096 + x) 0 ≡ from_above T x
-  above_else e = rw e
+  pub above_none : kind_of number ≡ None → x ≡ from_above T x
+  unfolding kind_of
+  above_none e = rw (ne_eqb number 6 (other_none number 6 Else refl e), ne_eqb number 9 (other_none number 9 Loop refl e), ne_eqb number 10 (other_none number 10 Until refl e))
 
-  pub above_loop : (kind_of ≡ 6 → ⊥) → kind_of ≡ 9 → get_or T (4096 + x) 0 ≡ from_above T x
-  above_loop n e = rw e
+  pub below_none : kind_of number ≡ None → x ≡ from_below T x
+  unfolding kind_of
+  below_none e = rw (ne_eqb number 6 (other_none number 6 Else refl e), ne_eqb number 9 (other_none number 9 Loop refl e))
 
-  pub above_until : (kind_of ≡ 6 → ⊥) → (kind_of ≡ 9 → ⊥) → kind_of ≡ 10 → get_or T (2048 + x) 0 ≡ from_above T x
-  above_until n m e = rw e
+  module _ (κ : Kind) (e : kind_of number ≡ Some κ) where
+    named : (ι : Kind) → κ ≡ ι → number ≡ kind_number ι
+    named ι h = let z = (kind_named number κ e).0 in rw h at (sym z)
 
-  pub above_other : (kind_of ≡ 6 → ⊥) → (kind_of ≡ 9 → ⊥) → (kind_of ≡ 10 → ⊥) → x ≡ from_above T x
-  above_other a b c = rw (ne_eqb kind_of 6 a, ne_eqb kind_of 9 b, ne_eqb kind_of 10 c)
+    pub above_tail : (κ ≡ Else) ⊎ (κ ≡ Loop) → get_or T (4096 + x) 0 ≡ from_above T x
+    above_tail (inl h) = rw (named Else h)
+    above_tail (inr h) = rw (named Loop h)
 
-  pub below_else : kind_of ≡ 6 → get_or T (2048 + x) 0 ≡ from_below T x
-  below_else e = rw e
+    pub above_head : κ ≡ Until → get_or T (2048 + x) 0 ≡ from_above T x
+    above_head h = rw (named Until h)
 
-  pub below_loop : (kind_of ≡ 6 → ⊥) → kind_of ≡ 9 → get_or T (4096 + x) 0 ≡ from_below T x
-  below_loop n e = rw e
+    pub above_other : (κ ≡ Else → ⊥) → (κ ≡ Loop → ⊥) → (κ ≡ Until → ⊥) → x ≡ from_above T x
+    unfolding kind_of
+    above_other a b c =
+        rw (ne_eqb number 6 (other_kind number 6 κ Else refl e a), ne_eqb number 9 (other_kind number 9 κ Loop refl e b), ne_eqb number 10 (other_kind number 10 κ Until refl e c))
 
-  pub below_other : (kind_of ≡ 6 → ⊥) → (kind_of ≡ 9 → ⊥) → x ≡ from_below T x
-  below_other a b = rw (ne_eqb kind_of 6 a, ne_eqb kind_of 9 b)
+    pub below_head : κ ≡ Else → get_or T (2048 + x) 0 ≡ from_below T x
+    below_head h = rw (named Else h)
 
-pub ruleset above = (above_else, above_loop, above_until, above_other)
+    pub below_tail : κ ≡ Loop → get_or T (4096 + x) 0 ≡ from_below T x
+    below_tail h = rw (named Loop h)
 
-pub ruleset below = (below_else, below_loop, below_other)
+    pub below_other : (κ ≡ Else → ⊥) → (κ ≡ Loop → ⊥) → x ≡ from_below T x
+    unfolding kind_of
+    below_other a b = rw (ne_eqb number 6 (other_kind number 6 κ Else refl e a), ne_eqb number 9 (other_kind number 9 κ Loop refl e b))
 
-pub join_is : (T : List ℕ) (g a b : ℕ) → a ≡ from_above T (g + 1) → b ≡ from_below T g → set (set T (5120 + g) a) (6144 + (g + 1)) b ≡ join T g
-unfolding join
-join_is T g a b p q = rw (p, q, add-one g)
+pub ruleset above = (above_none, above_tail, above_head, above_other)
+
+pub ruleset below = (below_none, below_head, below_tail, below_other)

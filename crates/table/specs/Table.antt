@@ -3,6 +3,8 @@
 -- then 9216 FIRST and 9280 LAST, 64 each, by procedure q. proofs/Tabled.antt says what the entries of a checked file are.
 use Rattle.std.specs.Prelude.{ℕ, zero, suc, ◌+◌, ◌*◌, ◌%◌, pred, List, [], ◌∷◌, cond, eqb, length, get_or, set, replicate}
 use Rattle.records.specs.Walk.{kind_at, offsets_from}
+use Rattle.table.specs.declared.kinds.Part.{Part}
+use Rattle.table.specs.declared.kinds.Part.TheVariants.{Then, Else, First, Second}
 
 unfoldable pub blank : List ℕ
 blank = replicate 9344 0
@@ -15,6 +17,12 @@ noted T x q o k = set (set (set T x (o % 65536)) (1024 + x) k) (8192 + x) q
 -- HEAD, OPEN.
 abbrev pub placed : List ℕ → (x h w : ℕ) → List ℕ
 placed T x h w = set (set T (2048 + x) h) (7168 + x) w
+
+abbrev pub part_number : Part → ℕ
+part_number Then = 0
+part_number Else = 1
+part_number First = 2
+part_number Second = 3
 
 -- The frame of kind k (0 true branch, 1 false branch, 2 in s1, 3 in s2) of the construct whose IF or FROM is h.
 abbrev pub frame_no : ℕ → ℕ → ℕ

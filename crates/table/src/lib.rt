@@ -2,95 +2,103 @@
 // The first pass is in kinds.rt; here are the second and third: the partners of each record, and the labels that one comes to from it.
 #![tactic(auto)]
 
-ghost use Rattle.std.specs.Prelude.{◌≡◌, suc, pred, ◌<◌, ◌≤◌};
+ghost use Rattle.std.specs.Prelude.{◌≡◌, ◌+◌, suc, pred, ◌≤◌, get_or};
+ghost use Rattle.records.specs.Kinds.{kind_of};
 ghost use Rattle.table.specs.Table.{share, shared, from_above, from_below, join, joined, table_of};
 
-use kinds::wide;
+use label::Label;
+use records::kind::Kind;
+use sections::{DOWN, HEAD, KIND, LABELS, MIDDLE, SIZE, TAIL, UP};
 
 mod kinds;
+mod label;
 
 // MIDDLE and TAIL of record x are those of its construct's IF or FROM.
-fn share(table: &mut [u16; 9344], x: usize)
-    requires { x < 1024 }
-    ensures { table.new ≡ share table.old x }
+#[tactic(auto, unfolding(crate::specs::Table::share))]
+fn share(table: &mut [u16; SIZE], x: Label)
+    ensures { table.new ≡ share table.old x.number }
 {
-    let head = wide(table[2048 + x]) % 1024;
-    let middle = table[3072 + head];
-    let tail = table[4096 + head];
-    table[3072 + x] = middle;
-    table[4096 + x] = tail;
+    let head = usize::from(table[HEAD + x.number]) % LABELS;
+    let middle = table[MIDDLE + head];
+    let tail = table[TAIL + head];
+    table[MIDDLE + x.number] = middle;
+    table[TAIL + x.number] = tail;
 }
 
 // The same for the first n records.
-fn share_all(table: &mut [u16; 9344], n: usize)
+#[tactic(auto, using(crate::proofs::Loops::shared_on, crate::proofs::Loops::shared_done))]
+fn share_all(table: &mut [u16; SIZE], n: usize)
     requires { n ≤ 1024 }
     ensures { table.new ≡ shared n 0 table.old }
 {
-    let mut x: usize = 0;
-    while x < n {
-        share(table, x);
-        x += 1;
+    for number in 0..n {
+        share(table, Label { number });
     }
+}
+
+// The kind of record x.
+fn kind_of(table: &[u16; SIZE], x: Label) -> Option<Kind>
+    ensures { result ≡ kind_of (get_or table.now (1024 + x.number) 0) }
+{
+    Kind::of(usize::from(table[KIND + x.number]))
 }
 
 // Where one comes to at record x from above.
-fn from_above(table: &[u16; 9344], x: usize) -> u16
-    requires { x < 1024 }
-    ensures { result ≡ from_above table.now x }
+#[tactic(auto, using(crate::proofs::Stores::above))]
+fn from_above(table: &[u16; SIZE], x: Label) -> u16
+    ensures { result ≡ from_above table.now x.number }
 {
-    let kind = table[1024 + x];
-    if kind == 6 {
-        return table[4096 + x];
+    let Some(kind) = kind_of(table, x) else {
+        return x.number as u16;
+    };
+    match kind {
+        Kind::Else | Kind::Loop => table[TAIL + x.number],
+        Kind::Until => table[HEAD + x.number],
+        _ => x.number as u16,
     }
-    if kind == 9 {
-        return table[4096 + x];
-    }
-    if kind == 10 {
-        return table[2048 + x];
-    }
-    x as u16
 }
 
 // Where one comes to at record x from below.
-fn from_below(table: &[u16; 9344], x: usize) -> u16
-    requires { x < 1024 }
-    ensures { result ≡ from_below table.now x }
+#[tactic(auto, using(crate::proofs::Stores::below))]
+fn from_below(table: &[u16; SIZE], x: Label) -> u16
+    ensures { result ≡ from_below table.now x.number }
 {
-    let kind = table[1024 + x];
-    if kind == 6 {
-        return table[2048 + x];
+    let Some(kind) = kind_of(table, x) else {
+        return x.number as u16;
+    };
+    match kind {
+        Kind::Else => table[HEAD + x.number],
+        Kind::Loop => table[TAIL + x.number],
+        _ => x.number as u16,
     }
-    if kind == 9 {
-        return table[4096 + x];
-    }
-    x as u16
 }
 
-// DOWN and UP at the gap between the records g and g + 1.
-fn join(table: &mut [u16; 9344], g: usize)
-    requires { suc g < 1024 }
-    ensures { table.new ≡ join table.old g }
+// DOWN and UP at the gap between two neighbours.
+#[tactic(auto, unfolding(crate::specs::Table::join))]
+fn join(table: &mut [u16; SIZE], upper: Label, lower: Label)
+    requires { lower.number ≡ suc upper.number }
+    ensures { table.new ≡ join table.old upper.number }
 {
-    let down = from_above(table, g + 1);
-    let up = from_below(table, g);
-    table[5120 + g] = down;
-    table[6144 + (g + 1)] = up;
+    let down = from_above(table, lower);
+    let up = from_below(table, upper);
+    table[DOWN + upper.number] = down;
+    table[UP + lower.number] = up;
 }
 
 // The same for the gaps of the first n records.
-fn join_all(table: &mut [u16; 9344], n: usize)
+#[tactic(auto, using(crate::proofs::Loops::joined_on, crate::proofs::Loops::joined_done))]
+fn join_all(table: &mut [u16; SIZE], n: usize)
     requires { n ≤ 1024 }
     ensures { table.new ≡ joined (pred n) 0 table.old }
 {
-    let mut g: usize = 0;
-    while g + 1 < n {
-        join(table, g);
-        g += 1;
+    for number in 1..n {
+        join(table, Label { number: number - 1 }, Label { number });
     }
 }
 
 // The table of any file; that of a checked one is as proofs/Tabled.antt says.
-pub fn table(file: &[u8]) -> [u16; 9344]
+#[tactic(auto, unfolding(crate::specs::Table::table_of))]
+pub fn table(file: &[u8]) -> [u16; SIZE]
     ensures { result ≡ table_of file.now }
 {
     let mut table = kinds::blank();

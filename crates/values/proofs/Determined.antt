@@ -1,5 +1,5 @@
 -- Any two outcomes that a public function's contract permits are equal. `Post` is the contract as src/lib.rt has it: arguments, answer, exit.
-use Rattle.std.proofs.Common.{◌≡◌, ℕ, ℤ, sym, ◌∙◌}
+use Rattle.std.proofs.Common.{◌≡◌, ℕ, Option, ℤ, sym, ◌∙◌}
 use Rattle.values.proofs.to_bits.Reads as to_bits
 use Rattle.values.proofs.from_bits.Reads as from_bits
 use Rattle.values.proofs.sum.Reads as sum
@@ -25,5 +25,5 @@ difference_determined x y r q s t = determined
 pub exclusive_determined : (x y r q : ℤ) (s t : _) → exclusive.Post tt (x, (y, tt)) r s → exclusive.Post tt (x, (y, tt)) q t → r ≡ q
 exclusive_determined x y r q s t = determined
 
-pub apply_determined : (op : ℕ) (x y r q : ℤ) (s t : _) → apply.Post tt (op, (x, (y, tt))) r s → apply.Post tt (op, (x, (y, tt))) q t → r ≡ q
+pub apply_determined : (op : ℕ) (x y : ℤ) (r q : Option ℤ) (s t : _) → apply.Post tt (op, (x, (y, tt))) r s → apply.Post tt (op, (x, (y, tt))) q t → r ≡ q
 apply_determined op x y r q s t = determined

@@ -3,16 +3,10 @@
 
 ghost use Rattle.std.specs.Prelude.{◌≤◌, length};
 
-use files::Got;
 use std::io::Print;
 
 // More bytes than all the cases have, and than their answers.
 const ALL: usize = 65536;
-
-// Zeros, made apart so that no goal carries them.
-fn empty() -> [u8; ALL] {
-    [0; ALL]
-}
 
 // The position after i, within the slice.
 fn past(s: &[u8], i: usize) -> usize {
@@ -20,11 +14,11 @@ fn past(s: &[u8], i: usize) -> usize {
 }
 
 fn operator(v: u64) -> u8 {
-    if v < 16 { v as u8 } else { 15 }
+    v.min(15) as u8
 }
 
-// What the operator gives on the line at `at`.
-fn given(s: &[u8], at: usize) -> i64 {
+// What the operator gives on the line at `at`: none by a zero divisor.
+fn given(s: &[u8], at: usize) -> Option<i32> {
     let op = words::read_digits(s, at);
     let left = words::read_signed(s, past(s, op.next));
     let right = words::read_signed(s, past(s, left.next));
@@ -35,59 +29,46 @@ fn given(s: &[u8], at: usize) -> i64 {
     )
 }
 
-// The two ways of writing, with what the caller needs of them: the position stays within.
-fn word(out: &mut [u8], at: usize, w: &[u8]) -> usize
-    requires { at ≤ length out.old }
-    ensures { result ≤ length out.new }
-{
-    words::put_bytes(out, at, w)
-}
-
-fn number(out: &mut [u8], at: usize, v: i64) -> usize
-    requires { at ≤ length out.old }
-    ensures { result ≤ length out.new }
-{
-    words::put_signed(out, at, v)
-}
-
 // One answer line at `at`, and the position after it.
-fn answer(out: &mut [u8], at: usize, v: i64) -> usize
+#[tactic(auto, using(words::proofs::Writing::after_within))]
+fn answer(out: &mut [u8], at: usize, v: Option<i32>) -> usize
     requires { at ≤ length out.old }
     ensures { result ≤ length out.new }
 {
-    if v > 2147483647 {
-        return word(out, at, b"zero\n");
-    }
-    let named = word(out, at, b"value ");
-    let end = number(out, named, v);
-    word(out, end, b"\n")
+    let Some(v) = v else {
+        return words::put_bytes(out, at, b"zero\n");
+    };
+    let named = words::put_bytes(out, at, b"value ");
+    let end = words::put_signed(out, named, i64::from(v));
+    words::put_bytes(out, end, b"\n")
 }
 
 // All answer lines from the front of out on, and the position after them.
 fn answers(s: &[u8], out: &mut [u8]) -> usize
     ensures { result ≤ length out.new }
 {
-    let mut at: usize = 0;
-    let mut end: usize = 0;
-    while at < s.len() {
-        end = answer(out, end, given(s, at));
-        at = words::next_line(s, at);
+    let mut end = 0;
+    for at in 0..s.len() {
+        // where a line starts
+        if at == 0 || s[at - 1] == b'\n' {
+            end = answer(out, end, given(s, at));
+        }
     }
     end
 }
 
 fn told(rt: &impl Print, input: &[u8]) {
-    let mut out = empty();
+    let mut out: [u8; ALL] = words::full(0);
     let end = answers(input, &mut out);
     // Nobody is left to tell where standard output is closed.
     let _ = rt.write_all(&out[..end]);
 }
 
 fn main(rt: HostRuntime) {
-    let mut input = empty();
+    let mut input: [u8; ALL] = words::full(0);
     match files::read_open(&mut rt.stdin(), &mut input) {
-        Got::All(n) => told(&rt, &input[..n]),
-        Got::Failed(error) => {
+        Ok(n) => told(&rt, &input[..n]),
+        Err(error) => {
             files::complain(&rt, b"values_lines", b"standard input", error);
         }
     }

@@ -1,4 +1,3 @@
 -- The laws of `ways`, in the order in which they stand on each other.
-pub mod LookCases
 pub mod MapCases
 pub mod Determined

@@ -1,12 +1,16 @@
 -- What the table of a file says of a record, for any table, and ways: a label and a direction in one number, the label, and 1,024
 -- more upwards. Nothing here has to be believed.
-use Rattle.std.specs.Prelude.{ℕ, ◌+◌, ◌%◌, List, Bool, cond, get_or, ltb, leb, eqb}
+use Rattle.std.specs.Prelude.{ℕ, ◌+◌, ◌%◌, List, Bool, cond, ltb, leb, eqb}
 use Rattle.std.specs.Bool.{beq as same}
 use Rattle.records.specs.Faults.{word}
+unfoldable pub use Rattle.sections.specs.Look.{look_in}
+use Rattle.ways.specs.declared.side.Side.{Side}
+use Rattle.ways.specs.declared.side.Side.TheVariants.{Down, Up}
 
--- an entry of the table, 0 past its end
-unfoldable pub look_in : List ℕ → ℕ → ℕ
-look_in tab i = cond (ltb i 9344) (get_or tab i 0) 0
+-- "u8 direction, 0 down, 1 up"
+abbrev pub side_number : Side → ℕ
+side_number Down = 0
+side_number Up = 1
 
 abbrev pub other_of : ℕ → ℕ
 other_of d = cond (eqb d 0) 1 0

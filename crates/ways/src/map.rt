@@ -1,239 +1,258 @@
 // All that a run asks of the file and the table, found once for each run: an entry for each way in seven sections of 2,048.
-// 0: what the record does; 2,048: the way on from it, where its test holds or there is none; 4,096: where it does not hold;
-// 6,144 and 8,192: a call's record by which the procedure is entered, and the way from there, or a SET's operator, and its cell
-// or array; 10,240: where its expression stands; 12,288: the head of its construct.
-ghost use Rattle.std.specs.Prelude.{◌≡◌, min, ◌<◌};
-ghost use Rattle.ways.specs.Looks.{resumed_of, test_of, act_of, left_at};
+ghost use Rattle.std.specs.Prelude.{◌≡◌, ◌<◌};
+ghost use Rattle.ways.specs.Looks.{side_number, resumed_of, test_of, act_of, left_at};
 ghost use Rattle.ways.specs.Map.{onward_at, gate_at, into_at, cell_act, set_act, act_at, first_at, second_at, expr_at, entry_at, Maps, no_entries};
 
-use crate::{along, gate, offset, operator, other, part, way_to, wide};
+use crate::side::Side;
+use crate::{along, gate, way_to};
 use codes::{byte, short};
+use sections::{HEAD, KIND, LABELS, MIDDLE, OFFSET, SIZE, TAIL, entry};
+
+// So many entries in all: for each label one in each of fourteen halves of sections.
+pub const ENTRIES: usize = 14336;
+
+const HALVES: usize = 14;
+
+// The numbers of kinds of records, as the table has them.
+// Stays: (a) `Maps`, and decide/Mapped `mapped`, are of any table: a kind of 0 returns, and one above 13 tests as UNTIL does.
+const END: u16 = 3;
+
+const SET: u16 = 4;
+
+const IF: u16 = 5;
+
+const FI: u16 = 7;
+
+const FROM: u16 = 8;
+
+const CALL: u16 = 11;
+
+const UNCALL: u16 = 12;
+
+const SKIP: u16 = 13;
+
+// What a record does, as the map's first section has it. A return is told by its direction, a SET of a cell by its operator.
+pub const RETURNS: u16 = 3;
+
+pub const ASSIGNS: u16 = 4;
+
+pub const CHOOSES: u16 = 5;
+
+pub const SETS_ENTRY: u16 = 6;
+
+pub const CLOSES: u16 = 7;
+
+pub const OPENS: u16 = 8;
+
+pub const RETURNS_UP: u16 = 9;
+
+pub const TESTS: u16 = 10;
+
+pub const CALLS: u16 = 11;
+
+pub const SUBTRACTS: u16 = 12;
+
+pub const SKIPS: u16 = 13;
+
+pub const EXCLUDES: u16 = 14;
 
 // No entry.
-fn none() -> [u16; 14336]
+#[tactic(auto, unfolding(crate::specs::Map::no_entries))]
+fn none() -> [u16; ENTRIES]
     ensures { result ≡ no_entries }
 {
-    [0; 14336]
+    [0; ENTRIES]
 }
 
-// What a record that tests does: it chooses (5), closes (7), opens (8) or tests (10).
-fn test_of(kind: u16, direction: u8) -> u16
-    ensures { result ≡ test_of kind direction }
+// What a record that tests does.
+fn test_of(kind: u16, side: Side) -> u16
+    ensures { result ≡ test_of kind (side_number side) }
 {
-    if kind == 5 {
-        return if direction == 0 { 5 } else { 7 };
+    match kind {
+        IF => side.going(CHOOSES, CLOSES),
+        FI => side.going(CLOSES, CHOOSES),
+        FROM => side.going(OPENS, TESTS),
+        _ => side.going(TESTS, OPENS),
     }
-    if kind == 7 {
-        return if direction == 0 { 7 } else { 5 };
-    }
-    if kind == 8 {
-        return if direction == 0 { 8 } else { 10 };
-    }
-    if direction == 0 { 10 } else { 8 }
 }
 
-// What a record does: it returns (3), assigns (4), calls (11), is skipped (13), or tests.
-fn act_of(kind: u16, direction: u8) -> u16
-    ensures { result ≡ act_of kind direction }
+// What a record does.
+fn act_of(kind: u16, side: Side) -> u16
+    ensures { result ≡ act_of kind (side_number side) }
 {
-    if kind == 4 {
-        return 4;
+    match kind {
+        SET => ASSIGNS,
+        SKIP => SKIPS,
+        CALL | UNCALL => CALLS,
+        0..=END => RETURNS,
+        _ => test_of(kind, side),
     }
-    if kind == 13 {
-        return 13;
-    }
-    if kind == 11 {
-        return 11;
-    }
-    if kind == 12 {
-        return 11;
-    }
-    if kind <= 3 {
-        return 3;
-    }
-    test_of(kind, direction)
 }
 
 // "the opposite direction from an UNCALL"
-fn resumed(table: &[u16; 9344], b: u16, direction: u8) -> u8
-    ensures { result ≡ resumed_of table.now b direction }
+fn resumed(table: &[u16; SIZE], b: u16, side: Side) -> Side
+    ensures { side_number result ≡ resumed_of table.now b (side_number side) }
 {
-    if part(table, 1024, b) == 12 {
-        return other(direction);
+    if entry(table, KIND, b) == UNCALL {
+        side.other()
+    } else {
+        side
     }
-    direction
 }
 
 // The record that is left behind record b, where its test does not hold, or does.
-fn left_at(table: &[u16; 9344], act: u16, b: u16, direction: u8, fails: bool) -> u16
-    ensures { result ≡ left_at table.now act b direction fails }
+// Stays: (d) the bool `fails`: the map asks for both answers of every test, so two functions would differ in one arm.
+fn left_at(table: &[u16; SIZE], act: u16, b: u16, side: Side, fails: bool) -> u16
+    ensures { result ≡ left_at table.now act b (side_number side) fails }
 {
-    if act == 5 {
-        return if fails == (direction == 0) {
-            part(table, 3072, b)
-        } else {
-            b
-        };
+    let middle = entry(table, MIDDLE, b);
+    match (act, fails) {
+        (CHOOSES, true) => side.going(middle, b),
+        (CHOOSES, false) | (OPENS, _) => side.going(b, middle),
+        (TESTS, true) => side.going(middle, entry(table, TAIL, b)),
+        _ => b,
     }
-    if act == 8 {
-        return if direction == 0 {
-            b
-        } else {
-            part(table, 3072, b)
-        };
-    }
-    if act == 10 {
-        if fails {
-            return if direction == 0 {
-                part(table, 3072, b)
-            } else {
-                part(table, 4096, b)
-            };
-        }
-    }
-    b
 }
 
 // The way on from record b.
-fn onward_at(table: &[u16; 9344], b: u16, direction: u8, fails: bool) -> u16
-    ensures { result ≡ onward_at table.now b direction fails }
+#[tactic(auto, unfolding(crate::specs::Map::onward_at))]
+fn onward_at(table: &[u16; SIZE], b: u16, side: Side, fails: bool) -> u16
+    ensures { result ≡ onward_at table.now b (side_number side) fails }
 {
-    let act = act_of(part(table, 1024, b), direction);
-    let d = resumed(table, b, direction);
-    way_to(along(table, d, left_at(table, act, b, direction, fails)), d)
+    let act = act_of(entry(table, KIND, b), side);
+    let left = left_at(table, act, b, side, fails);
+    let direction = resumed(table, b, side).number();
+    way_to(along(table, direction, left), direction)
 }
 
 // The record by which the procedure that record b names is entered; and the way from there.
-fn gate_at(file: &[u8], table: &[u16; 9344], b: u16, direction: u8) -> u16
-    ensures { result ≡ gate_at file.now table.now b direction }
+#[tactic(auto, unfolding(crate::specs::Map::gate_at))]
+fn gate_at(file: &[u8], table: &[u16; SIZE], b: u16, side: Side) -> u16
+    ensures { result ≡ gate_at file.now table.now b (side_number side) }
 {
-    let q = short(file, wide(offset(table, b)) + 4);
-    gate(table, q, resumed(table, b, direction))
+    let q = short(file, usize::from(entry(table, OFFSET, b)) + 4);
+    gate(table, q, resumed(table, b, side).number())
 }
 
-fn into_at(file: &[u8], table: &[u16; 9344], b: u16, direction: u8) -> u16
-    ensures { result ≡ into_at file.now table.now b direction }
+#[tactic(auto, unfolding(crate::specs::Map::into_at))]
+fn into_at(file: &[u8], table: &[u16; SIZE], b: u16, side: Side) -> u16
+    ensures { result ≡ into_at file.now table.now b (side_number side) }
 {
-    let d = resumed(table, b, direction);
-    way_to(along(table, d, gate_at(file, table, b, direction)), d)
+    let direction = resumed(table, b, side).number();
+    way_to(
+        along(table, direction, gate_at(file, table, b, side)),
+        direction,
+    )
 }
 
-// What a SET of a cell does: it adds (4), subtracts (12) or is exclusive (14).
+// What a SET of a cell does, by its operator.
 fn cell_act(o: u16) -> u16
     ensures { result ≡ cell_act o }
 {
-    if o == 0 {
-        return 4;
+    match o {
+        0 => ASSIGNS,
+        1 => SUBTRACTS,
+        _ => EXCLUDES,
     }
-    if o == 1 { 12 } else { 14 }
 }
 
-// What the SET at `at` does; one of an entry has an act of its own (6).
-fn set_act(file: &[u8], at: usize, direction: u8) -> u16
+// What the SET at `at` does; one of an entry has an act of its own.
+fn set_act(file: &[u8], at: usize, side: Side) -> u16
     requires { at < 65536 }
-    ensures { result ≡ set_act file.now at direction }
+    ensures { result ≡ set_act file.now at (side_number side) }
 {
     if byte(file, at + 5) == 0 {
-        return cell_act(operator(byte(file, at + 4) as u16, direction));
+        cell_act(side.operator(byte(file, at + 4) as u16))
+    } else {
+        SETS_ENTRY
     }
-    6
 }
 
-// What record b does; a return is told by its direction: downwards (3), upwards (9).
-fn act_at(file: &[u8], table: &[u16; 9344], b: u16, direction: u8) -> u16
-    ensures { result ≡ act_at file.now table.now b direction }
+// What record b does.
+#[tactic(auto, unfolding(crate::specs::Map::act_at))]
+fn act_at(file: &[u8], table: &[u16; SIZE], b: u16, side: Side) -> u16
+    ensures { result ≡ act_at file.now table.now b (side_number side) }
 {
-    let kind = part(table, 1024, b);
-    if kind == 4 {
-        return set_act(file, wide(offset(table, b)), direction);
+    let kind = entry(table, KIND, b);
+    if kind == SET {
+        return set_act(file, usize::from(entry(table, OFFSET, b)), side);
     }
-    let act = act_of(kind, direction);
-    if act == 3 {
-        return if direction == 0 { 3 } else { 9 };
+    match act_of(kind, side) {
+        RETURNS => side.going(RETURNS, RETURNS_UP),
+        act => act,
     }
-    act
 }
 
 // A call's gate, or a SET's operator.
-fn first_at(file: &[u8], table: &[u16; 9344], b: u16, direction: u8) -> u16
-    ensures { result ≡ first_at file.now table.now b direction }
+#[tactic(auto, unfolding(crate::specs::Map::first_at))]
+fn first_at(file: &[u8], table: &[u16; SIZE], b: u16, side: Side) -> u16
+    ensures { result ≡ first_at file.now table.now b (side_number side) }
 {
-    if part(table, 1024, b) == 4 {
-        let o = byte(file, wide(offset(table, b)) + 4);
-        return operator(o as u16, direction);
+    if entry(table, KIND, b) == SET {
+        let o = byte(file, usize::from(entry(table, OFFSET, b)) + 4);
+        side.operator(o as u16)
+    } else {
+        gate_at(file, table, b, side)
     }
-    gate_at(file, table, b, direction)
 }
 
 // The way behind a call's gate, or the number of a SET's cell or array.
-fn second_at(file: &[u8], table: &[u16; 9344], b: u16, direction: u8) -> u16
-    ensures { result ≡ second_at file.now table.now b direction }
+#[tactic(auto, unfolding(crate::specs::Map::second_at))]
+fn second_at(file: &[u8], table: &[u16; SIZE], b: u16, side: Side) -> u16
+    ensures { result ≡ second_at file.now table.now b (side_number side) }
 {
-    if part(table, 1024, b) == 4 {
-        return short(file, wide(offset(table, b)) + 6) as u16;
+    if entry(table, KIND, b) == SET {
+        short(file, usize::from(entry(table, OFFSET, b)) + 6) as u16
+    } else {
+        into_at(file, table, b, side)
     }
-    into_at(file, table, b, direction)
 }
 
 // Where the expression of record b stands; a SET's behind its operator and target.
-fn expr_at(table: &[u16; 9344], b: u16) -> u16
+#[tactic(auto, unfolding(crate::specs::Map::expr_at))]
+fn expr_at(table: &[u16; SIZE], b: u16) -> u16
     ensures { result ≡ expr_at table.now b }
 {
-    let o = offset(table, b);
+    let o = entry(table, OFFSET, b);
     if 32768 <= o {
-        return o;
+        o
+    } else if entry(table, KIND, b) == SET {
+        o + 8
+    } else {
+        o + 4
     }
-    if part(table, 1024, b) == 4 {
-        return o + 8;
-    }
-    o + 4
 }
 
-// The entry of record b in half a section: downwards the even ones, upwards the odd ones.
-fn entry_at(file: &[u8], table: &[u16; 9344], half: usize, b: u16) -> u16
+// The entry of record b in half a section: downwards the even ones, upwards the odd ones. The sections in turn: what the record does;
+// the way on from it, where its test holds or there is none, and where it does not hold; a call's gate, and the way from there, or a
+// SET's operator, and its cell or array; where its expression stands; the head of its construct.
+#[tactic(auto, unfolding(crate::specs::Map::entry_at))]
+fn entry_at(file: &[u8], table: &[u16; SIZE], half: usize, b: u16) -> u16
     ensures { result ≡ entry_at file.now table.now half b }
 {
-    let direction = (half % 2) as u8;
-    if half < 2 {
-        return act_at(file, table, b, direction);
+    let side = if half % 2 == 0 { Side::Down } else { Side::Up };
+    match half {
+        0..2 => act_at(file, table, b, side),
+        2..4 => onward_at(table, b, side, false),
+        4..6 => onward_at(table, b, side, true),
+        6..8 => first_at(file, table, b, side),
+        8..10 => second_at(file, table, b, side),
+        10..12 => expr_at(table, b),
+        _ => entry(table, HEAD, b),
     }
-    if half < 4 {
-        return onward_at(table, b, direction, false);
-    }
-    if half < 6 {
-        return onward_at(table, b, direction, true);
-    }
-    if half < 8 {
-        return first_at(file, table, b, direction);
-    }
-    if half < 10 {
-        return second_at(file, table, b, direction);
-    }
-    if half < 12 {
-        return expr_at(table, b);
-    }
-    part(table, 2048, b)
-}
-
-fn least(a: usize, b: usize) -> usize
-    ensures { result ≡ min a b }
-{
-    if a < b { a } else { b }
 }
 
 // The entries of the first n labels; the rest is 0.
 #[inline(never)]
-pub fn map(file: &[u8], table: &[u16; 9344], n: usize) -> [u16; 14336]
+#[tactic(auto, using(crate::proofs::MapCases::filled_none, crate::proofs::MapCases::filled_more, crate::proofs::MapCases::filled_all))]
+pub fn map(file: &[u8], table: &[u16; SIZE], n: usize) -> [u16; ENTRIES]
     ensures { Maps file.now table.now n result }
 {
     let mut map = none();
-    let most = 14 * least(1024, n);
-    let mut i: usize = 0;
-    while i < most {
-        let half = i % 14;
-        let b = i / 14;
-        map[1024 * half + b] = entry_at(file, table, half, b as u16);
-        i += 1;
+    for i in 0..HALVES * n.min(LABELS) {
+        let half = i % HALVES;
+        let b = i / HALVES;
+        map[LABELS * half + b] = entry_at(file, table, half, b as u16);
     }
     map
 }

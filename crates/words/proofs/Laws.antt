@@ -1,6 +1,6 @@
 -- What is written in decimal reads back as the same number.
-use mathlib.Core.Path.{◌≡◌, refl, ap, ◌∙◌}
-use mathlib.Core.Bool.{Bool, true, false, cond}
+use mathlib.Core.Path.{◌≡◌, refl, ap, ap₂, ◌∙◌}
+use mathlib.Core.Bool.{Bool, true, false, cond, ◌&&◌}
 use mathlib.Core.List.{List, [], ◌∷◌, ◌++◌}
 use Prim.Native.Nat.{ℕ, zero, suc, ◌+◌, ◌-◌, ◌*◌, ◌/◌, ◌^◌, ◌≤◌, ◌<◌, min}
 use native.Mathlib.Omega.{arith}
@@ -8,16 +8,16 @@ use native.Mathlib.Decide.{dec_lt}
 use native.Mathlib.Nat.{div-lt_iff_lt-mul, pow-suc}
 use lib.Dec.{ltb}
 use lib.ListN.{length}
+use borrow.Author.Tests.{le-leb}
 use Rattle.words.specs.Words.{is_digit, last_digit, decimal_by, decimal, digit_count, digit_value, limit}
 use Rattle.words.proofs.Writing.{short, longer}
-use Rattle.words.proofs.Reading.{inside}
 
 abbrev Digits : List ℕ → Type 0
 Digits [] = Unit {0}
 Digits (b ∷ s) = (is_digit b ≡ true) × Digits s
 
 last_is : (n : ℕ) → is_digit (last_digit n) ≡ true
-last_is n = inside 48 57 (last_digit n) (omega arith) (omega arith)
+last_is n = ap₂ ◌&&◌ (le-leb 48 (last_digit n) (omega arith)) (le-leb (last_digit n) 57 (omega arith))
 
 one_more : (s : List ℕ) (d : ℕ) → Digits s → is_digit d ≡ true → Digits (s ++ (d ∷ []))
 one_more [] d h p = (p, tt)

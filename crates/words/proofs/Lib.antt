@@ -1,6 +1,5 @@
--- Laws of `words`: Laws, Samples and Determined for the reader; Writing, Reading, Lines and Zeros for proofs.
+-- Laws of `words`: Laws, Samples and Determined for the reader; Writing, Lines and Zeros for proofs.
 pub mod Writing
-pub mod Reading
 pub mod Lines
 pub mod Zeros
 pub mod Laws

@@ -3,6 +3,7 @@ use mathlib.Core.Path.{◌≡◌, refl}
 use mathlib.Core.List.{List, [], ◌∷◌}
 use Prim.Native.Nat.{ℕ}
 use lib.IntN.{pos, neg_ℤ}
+use Rattle.std.specs.Prelude.{Some, None}
 use Rattle.words.specs.Words.{decimal_by, decimal, signed_decimal, signed_next, signed_value, hex_byte}
 
 -- "0", "10", "18446744073709551615", "-2147483648"
@@ -27,5 +28,5 @@ pub read_ends : signed_next text 0 ∷ signed_next text 3 ∷ signed_next text 4
 read_ends = refl
 
 -- "0a", "ff", "F0", "9"
-pub hex_bytes_lem : hex_byte (48 ∷ 97 ∷ []) 0 ∷ hex_byte (102 ∷ 102 ∷ []) 0 ∷ hex_byte (70 ∷ 48 ∷ []) 0 ∷ hex_byte (57 ∷ []) 0 ∷ [] ≡ 10 ∷ 255 ∷ 256 ∷ 256 ∷ []
+pub hex_bytes_lem : hex_byte (48 ∷ 97 ∷ []) 0 ∷ hex_byte (102 ∷ 102 ∷ []) 0 ∷ hex_byte (70 ∷ 48 ∷ []) 0 ∷ hex_byte (57 ∷ []) 0 ∷ [] ≡ Some 10 ∷ Some 255 ∷ None ∷ None ∷ []
 hex_bytes_lem = refl

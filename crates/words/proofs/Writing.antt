@@ -1,40 +1,28 @@
--- Bytes put into a buffer: runs of stores, the room for them, the digits of a number.
+-- Bytes put into a buffer: those that fit, the digits of a number, its sign.
 use mathlib.Core.Path.{◌≡◌, refl, sym, ap, ◌∙◌}
 use mathlib.Core.Bool.{Bool, true, false, cond}
 use mathlib.Core.List.{List, [], ◌∷◌, ◌++◌}
 use Prim.Native.Nat.{ℕ, zero, suc, ◌+◌, ◌-◌, ◌/◌, ◌≤◌, ◌<◌}
-use native.Mathlib.Numerals.{add-one}
 use native.Mathlib.Omega.{arith}
-use native.Mathlib.Decide.{dec_le}
 use lib.Dec.{leb, ltb}
-use lib.ListN.{length, get_or, set, take, drop, length-append}
-use lib.Seq.{sets, sets-eq, take-suc, take_at, length-take-le}
-use borrow.Author.Tests.{le-leb, lt-leb, leb-true, lt-ltb, le-ltb}
-use lib.IntN.{ℤ, pos, negsuc, nat_abs}
-use lib.Signed.{non_neg, le_z}
-use lib.Dec.{T}
-use mir.Syntax.{w64}
-use mir.Val.{to_z, of_z, Fits, SFits}
-use Rattle.values.proofs.Bits.{clash, not_z, not_reads as complement}
+use lib.ListN.{length, set, take, drop, length-append}
+use lib.Seq.{sets, sets-eq, take_at}
+use borrow.Author.Tests.{le-leb, leb-true, lt-ltb, le-ltb}
+use borrow.Rule.Slice.PartMut.{put_mid}
+use lib.IntN.{ℤ, pos, negsuc}
+use lib.Signed.{le_z}
+use Rattle.std.specs.Prelude.{unsigned_abs}
+use Rattle.std.proofs.Common.{append_assoc}
+use Rattle.std.proofs.lemmas.Slice.{put_mid-paste}
+use Rattle.std.proofs.lemmas.List.Edits.{paste_all}
 use Rattle.codes.proofs.Cases.{sets_append}
 use Rattle.words.specs.Words.{fits, put, after, last_digit, decimal_by, decimal, signed_decimal}
 
--- ---- room
-pub no_room : (at need len : ℕ) → len < at → false ≡ leb (at + need) len
-no_room at need len h = sym (lt-leb (at + need) len (omega arith))
-
-pub room_is : (at need len : ℕ) → at ≤ len → leb need (len - at) ≡ leb (at + need) len
-room_is at need len h = both (dec_le need (len - at))
-  where
-    both : Dec (need ≤ len - at) → leb need (len - at) ≡ leb (at + need) len
-    both (yes p) = le-leb need (len - at) p ∙ sym (le-leb (at + need) len (omega arith))
-    both (no p) = lt-leb need (len - at) (omega arith) ∙ sym (lt-leb (at + need) len (omega arith))
-
-pub wrote : (b now w : List ℕ) (at : ℕ) → fits b at w ≡ true → now ≡ sets b at w → (at + length w ≡ after b at w) × (now ≡ put b at w)
-wrote b now w at p e = (sym (ap (λ (t : Bool). cond t (at + length w) at) p), e ∙ sym (ap (λ (t : Bool). cond t (sets b at w) b) p))
-
-pub unwritten : (b w : List ℕ) (at : ℕ) → fits b at w ≡ false → (at ≡ after b at w) × (b ≡ put b at w)
-unwritten b w at p = (sym (ap (λ (t : Bool). cond t (at + length w) at) p), sym (ap (λ (t : Bool). cond t (sets b at w) b) p))
+-- ---- bytes that fit
+pub written : (b c w : List ℕ) (at : ℕ) → fits b at w ≡ true → c ≡ w → put_mid at (at + length w - at) b c ≡ put b at w
+written b c w at p e =
+    rw p
+    (put_mid-paste at (at + length w - at) b c w (length w) e (omega arith) refl ∙ paste_all b at w (length w) refl ∙ sym (sets-eq w b at (leb-true (at + length w) (length b) p) ∙ append_assoc (take at b) w (drop (at + length w) b)))
 
 -- the position stays within the buffer
 pub after_within : (b w : List ℕ) (at : ℕ) → at ≤ length b → after b at w ≤ length b
@@ -56,15 +44,6 @@ said b now w v at r e h = (h.0 ∙ ap (after b at) e, h.1 ∙ ap (put b at) e)
 -- what was stored from the front on is what stands there
 pub front : (l ds : List ℕ) (r : ℕ) → length ds ≤ length l → r ≡ 0 + length ds → take r (sets l 0 ds) ≡ ds
 front l ds r h e = ap (λ (b : List ℕ). take r b) (sets-eq ds l 0 (omega arith)) ∙ take_at ds (drop (0 + length ds) l) r (omega arith)
-
--- one more byte of a copy
-pub copied : (l now w : List ℕ) (at i : ℕ) → i < length w → now ≡ sets l at (take i w) → set now (at + i) (get_or w i 0) ≡ sets l at (take (i + 1) w)
-copied l now w at i h e =
-    ap (λ (b : List ℕ). set b (at + i) (get_or w i 0)) e
-    ∙ ap (λ (n : ℕ). set (sets l at (take i w)) (at + n) (get_or w i 0)) (sym (length-take-le i w (omega arith)))
-    ∙ sym (sets_append l at (take i w) (get_or w i 0 ∷ []))
-    ∙ ap (sets l at) (sym (take-suc w i 0 h))
-    ∙ ap (λ (n : ℕ). sets l at (take n w)) (sym (add-one i))
 
 -- ---- the digits of a number
 pub short : (k n : ℕ) → n < 10 → decimal_by k n ≡ last_digit n ∷ []
@@ -107,29 +86,11 @@ stored_after l mid now at p r k n f h ep em er en =
       en ∙ (λ i. set (em i) (ep i) (last_digit n)) ∙ sym (sets_append l at (decimal_by (k - 1) (n / 10)) (last_digit n ∷ [])),
     )
 
--- ---- the sign: by the number, or by its complement and one
-pub above_cast : (z : ℤ) → SFits w64 z → le_z (pos 0) z ≡ true → T (non_neg z) × Fits w64 (nat_abs z)
-above_cast (pos n) h p = (tt, omega arith)
-above_cast (negsuc n) h p = clash (sym p)
-
-pub above_is : (z : ℤ) → le_z (pos 0) z ≡ true → decimal (nat_abs z) ≡ signed_decimal z
+-- ---- the sign
+pub above_is : (z : ℤ) → le_z (pos 0) z ≡ true → decimal (unsigned_abs z) ≡ signed_decimal z
 above_is (pos n) p = refl
-above_is (negsuc n) p = clash (sym p)
+above_is (negsuc n) p = cc
 
-pub not_reads : (z : ℤ) → SFits w64 z → to_z w64 (18446744073709551615 - of_z w64 z) ≡ not_z z
-not_reads = complement w64
-
-never : {X : Type 0} (n : ℕ) → le_z (pos 0) (pos n) ≡ false → X
-never n p = clash (sym (le-leb 0 n (omega arith)) ∙ p)
-
-pub below_cast : (z : ℤ) → SFits w64 z → le_z (pos 0) z ≡ false → T (non_neg (not_z z)) × Fits w64 (nat_abs (not_z z))
-below_cast (pos n) h p = never n p
-below_cast (negsuc n) h p = (tt, omega arith)
-
-pub below_fits : (z : ℤ) → SFits w64 z → le_z (pos 0) z ≡ false → Fits w64 (nat_abs (not_z z) + 1)
-below_fits (pos n) h p = never n p
-below_fits (negsuc n) h p = omega arith
-
-pub below_is : (z : ℤ) → le_z (pos 0) z ≡ false → 45 ∷ decimal (nat_abs (not_z z) + 1) ≡ signed_decimal z
-below_is (pos n) p = never n p
-below_is (negsuc n) p = ap (λ (k : ℕ). 45 ∷ decimal k) (add-one n)
+pub below_is : (z : ℤ) → le_z (pos 0) z ≡ false → 45 ∷ decimal (unsigned_abs z) ≡ signed_decimal z
+below_is (pos n) p = let e : leb 0 n ≡ true = le-leb 0 n (omega arith) in cc
+below_is (negsuc n) p = refl

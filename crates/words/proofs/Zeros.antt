@@ -5,7 +5,7 @@ use mathlib.Core.List.{List}
 use lib.ListN.{length, length-replicate}
 use Rattle.words.specs.Zeros.{copies, Filled}
 
-length_copies : {A : Type 0} (n : ℕ) (x : A) → length (copies n x) ≡ n
+pub length_copies : {A : Type 0} (n : ℕ) (x : A) → length (copies n x) ≡ n
 unfolding copies
 length_copies n x = length-replicate n x
 

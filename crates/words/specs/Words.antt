@@ -1,5 +1,5 @@
 -- Numbers as text, in bytes: how they are written into a buffer, and what is read at a position; bytes in hexadecimal; lines.
-use Rattle.std.specs.Prelude.{ℕ, zero, suc, ◌+◌, ◌-◌, ◌*◌, ◌/◌, ◌%◌, ◌^◌, ◌≤◌, min, ◌≡◌, Bool, cond, ◌&&◌, List, [], ◌∷◌, ◌++◌, ℤ, pos, negsuc, neg_ℤ, leb, ltb, eqb, length, take, drop, get_or}
+use Rattle.std.specs.Prelude.{ℕ, zero, suc, ◌+◌, ◌-◌, ◌*◌, ◌/◌, ◌%◌, ◌^◌, ◌≤◌, min, ◌≡◌, Bool, cond, ◌&&◌, List, [], ◌∷◌, ◌++◌, Option, Some, None, ℤ, pos, negsuc, neg_ℤ, leb, ltb, eqb, length, take, drop, get_or}
 use Rattle.std.specs.Int.Signed.{lt_z}
 use Rattle.std.proofs.lemmas.List.Edits.{sets}
 
@@ -64,21 +64,27 @@ signed_next s at = cond (has_minus s at) (cond (eqb (digit_count (drop (at + 1) 
 abbrev pub signed_value : List ℕ → ℕ → ℤ
 signed_value s at = cond (has_minus s at) (neg_ℤ (pos (digit_value 0 (drop (at + 1) s)))) (pos (digit_value 0 (drop at s)))
 
--- A lowercase hexadecimal digit's value; 16 for another byte.
-abbrev pub hex_digit : ℕ → ℕ
-hex_digit b = cond (is_digit b) (b - 48) (cond (leb 97 b && leb b 102) (b - 87) 16)
+-- A lowercase hexadecimal digit's value; none for another byte.
+abbrev pub hex_digit : ℕ → Option ℕ
+hex_digit b = cond (is_digit b) (Some (b - 48)) (cond (leb 97 b && leb b 102) (Some (b - 87)) None)
 
--- The byte that two such digits make; 256 where there are none.
-abbrev pub hex_pair : ℕ → ℕ → ℕ
-hex_pair h l = cond (ltb h 16 && ltb l 16) (16 * h + l) 256
+-- The byte that two such digits make.
+abbrev pub hex_pair : Option ℕ → Option ℕ → Option ℕ
+hex_pair (Some h) (Some l) = Some (16 * h + l)
+hex_pair (Some h) None = None
+hex_pair None l = None
 
-abbrev pub hex_byte : List ℕ → ℕ → ℕ
+abbrev pub hex_byte : List ℕ → ℕ → Option ℕ
 hex_byte s at = hex_pair (hex_digit (get_or s at 0)) (hex_digit (get_or s (at + 1) 0))
+
+abbrev pub before : Option ℕ → List ℕ → List ℕ
+before (Some b) bs = b ∷ bs
+before None bs = []
 
 -- The bytes whose digits stand from `at` on, n at most.
 unfoldable pub hex_bytes : ℕ → List ℕ → ℕ → List ℕ
 hex_bytes zero s at = []
-hex_bytes (suc n) s at = cond (ltb (hex_byte s at) 256) (hex_byte s at ∷ hex_bytes n s (at + 2)) []
+hex_bytes (suc n) s at = before (hex_byte s at) (hex_bytes n s (at + 2))
 
 -- n bytes at the front of b: both parts, so that lending them asks no proof file of a caller.
 abbrev pub Counts : ℕ → List ℕ → Type 0

@@ -1,5 +1,5 @@
 -- Arrays that are made full of one value. The list stays shut, so that no goal counts its elements one by one.
-use Rattle.std.specs.Prelude.{ℕ, ◌≡◌, List, length, replicate}
+use Rattle.std.specs.Prelude.{ℕ, ◌+◌, ◌≡◌, List, length, replicate}
 
 unfoldable pub copies : {A : Type 0} → ℕ → A → List A
 copies n x = replicate n x

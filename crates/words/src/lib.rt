@@ -3,21 +3,23 @@
 
 ghost use Rattle.std.specs.Prelude.{◌≡◌, ◌+◌, ◌*◌, ◌-◌, ◌≤◌, ◌<◌, min, leb, length, get_or, drop, set};
 ghost use Rattle.std.proofs.lemmas.List.Edits.{sets};
+ghost use Rattle.words.specs.Zeros.{Filled};
 ghost use Rattle.words.specs.Words.{put, after, last_digit, decimal_by, decimal, signed_decimal, limit, digit_count, digit_value, signed_next, signed_value, hex_digit, hex_byte, hex_bytes, Counts, nearest, next_line};
 
 // The largest number that is read, `limit`.
-const LIMIT: u64 = 1000000000000000000;
+const LIMIT: u64 = 1_000_000_000_000_000_000;
 
-// A number that was read, and the position after it.
-#[derive(Drop)]
-pub struct Number {
-    pub value: u64,
-    pub next: usize,
+// An array full of one value, made apart so that no goal counts its elements one by one.
+pub fn full<T: Copy, const N: usize>(x: T) -> [T; N]
+    ensures { Filled x N result }
+{
+    [x; N]
 }
 
-#[derive(Drop)]
-pub struct Signed {
-    pub value: i64,
+// A number that was read, and the position after it.
+#[derive(Clone, Copy)]
+pub struct Number<T> {
+    pub value: T,
     pub next: usize,
 }
 
@@ -25,21 +27,7 @@ pub struct Signed {
 fn has_room(len: usize, at: usize, need: usize) -> bool
     ensures { result ≡ leb (at + need) len }
 {
-    if at > len {
-        return false;
-    }
-    need <= len - at
-}
-
-fn copy(buf: &mut [u8], at: usize, word: &[u8])
-    requires { at + length word.now ≤ length buf.old }
-    ensures { buf.new ≡ sets buf.old at word.now }
-{
-    let mut i: usize = 0;
-    while i < word.len() {
-        buf[at + i] = word[i];
-        i += 1;
-    }
+    at <= len && need <= len - at
 }
 
 // Writes the bytes of word at `at` and answers the position after them; where they do not fit, writes nothing and answers `at`.
@@ -47,11 +35,12 @@ pub fn put_bytes(buf: &mut [u8], at: usize, word: &[u8]) -> usize
     ensures value { result ≡ after buf.old at word.now }
     ensures buf_after { buf.new ≡ put buf.old at word.now }
 {
-    if has_room(buf.len(), at, word.len()) {
-        copy(buf, at, word);
-        return at + word.len();
+    if !has_room(buf.len(), at, word.len()) {
+        return at;
     }
-    at
+    let end = at + word.len();
+    buf[at..end].copy_from_slice(word);
+    end
 }
 
 fn put_digit(text: &mut [u8; 21], at: usize, n: u64) -> usize
@@ -59,7 +48,7 @@ fn put_digit(text: &mut [u8; 21], at: usize, n: u64) -> usize
     ensures value { result ≡ at + 1 }
     ensures text_after { text.new ≡ set text.old at (last_digit n) }
 {
-    text[at] = 48 + (n % 10) as u8;
+    text[at] = b'0' + (n % 10) as u8;
     at + 1
 }
 
@@ -69,10 +58,7 @@ fn digits(text: &mut [u8; 21], at: usize, n: u64, left: usize) -> usize
     ensures value { result ≡ at + length (decimal_by left n) }
     ensures text_after { text.new ≡ sets text.old at (decimal_by left n) }
 {
-    if left == 0 {
-        return put_digit(text, at, n);
-    }
-    if n < 10 {
+    if left == 0 || n < 10 {
         return put_digit(text, at, n);
     }
     let end = digits(text, at, n / 10, left - 1);
@@ -95,11 +81,11 @@ pub fn put_signed(buf: &mut [u8], at: usize, z: i64) -> usize
     ensures buf_after { buf.new ≡ put buf.old at (signed_decimal z) }
 {
     if z >= 0 {
-        return put_decimal(buf, at, z as u64);
+        return put_decimal(buf, at, z.unsigned_abs());
     }
     let mut text = [0u8; 21];
-    text[0] = 45;
-    let end = digits(&mut text, 1, (!z) as u64 + 1, 19);
+    text[0] = b'-';
+    let end = digits(&mut text, 1, z.unsigned_abs(), 19);
     put_bytes(buf, at, &text[..end])
 }
 
@@ -108,101 +94,74 @@ fn with_digit(v: u64, b: u8) -> u64
     requires { (v ≤ limit) × (48 ≤ b) × (b ≤ 57) }
     ensures { result ≡ min (10 * v + (b - 48)) limit }
 {
-    let w = 10 * v + (b - 48) as u64;
-    if w > LIMIT { LIMIT } else { w }
+    (10 * v + u64::from(b - b'0')).min(LIMIT)
 }
 
 // The digits at `at`: their number, and the position after them.
-pub fn read_digits(s: &[u8], at: usize) -> Number
+pub fn read_digits(s: &[u8], at: usize) -> Number<u64>
     ensures next_value { result.next ≡ at + digit_count (drop at s.now) }
     ensures value_value { result.value ≡ digit_value 0 (drop at s.now) }
+    ensures within_limit { result.value ≤ limit }
 {
-    let mut value: u64 = 0;
-    let mut next = at;
-    while next < s.len() {
-        let b = s[next];
-        if b < 48 {
-            return Number {
-                value: value,
-                next: next,
-            };
+    let mut n = Number { value: 0, next: at };
+    for i in at..s.len() {
+        if !s[i].is_ascii_digit() {
+            return n;
         }
-        if b > 57 {
-            return Number {
-                value: value,
-                next: next,
-            };
-        }
-        value = with_digit(value, b);
-        next += 1;
+        n = Number {
+            value: with_digit(n.value, s[i]),
+            next: i + 1,
+        };
     }
-    Number {
-        value: value,
-        next: next,
-    }
+    n
 }
 
 // The byte at i, 0 past the end.
 pub fn byte_at(s: &[u8], i: usize) -> u8
     ensures { result ≡ get_or s.now i 0 }
 {
-    if i < s.len() { s[i] } else { 0 }
+    s.get(i).copied().unwrap_or(0)
 }
 
 // Digits at `at`, or a minus and digits.
-pub fn read_signed(s: &[u8], at: usize) -> Signed
+pub fn read_signed(s: &[u8], at: usize) -> Number<i64>
     ensures next_value { result.next ≡ signed_next s.now at }
     ensures value_value { result.value ≡ signed_value s.now at }
 {
-    if byte_at(s, at) == 45 {
-        let n = read_digits(s, at + 1);
-        if n.next == at + 1 {
-            return Signed { value: 0, next: at };
-        }
-        return Signed {
-            value: -(n.value as i64),
+    if byte_at(s, at) != b'-' {
+        let n = read_digits(s, at);
+        return Number {
+            value: n.value as i64,
             next: n.next,
         };
     }
-    let n = read_digits(s, at);
-    Signed {
-        value: n.value as i64,
-        next: n.next,
+    let n = read_digits(s, at + 1);
+    // A minus alone is no number.
+    let next = if n.next == at + 1 { at } else { n.next };
+    Number {
+        value: -(n.value as i64),
+        next,
     }
 }
 
-// The value of a hexadecimal digit, 16 for another byte.
-fn hex_digit(b: u8) -> usize
+// The value of a hexadecimal digit.
+fn hex_digit(b: u8) -> Option<u8>
     ensures { result ≡ hex_digit b }
 {
-    if b < 48 {
-        return 16;
+    match b {
+        b'0'..=b'9' => Some(b - b'0'),
+        b'a'..=b'f' => Some(b - b'a' + 10),
+        _ => None,
     }
-    if b <= 57 {
-        return (b - 48) as usize;
-    }
-    if b < 97 {
-        return 16;
-    }
-    if b <= 102 {
-        return (b - 87) as usize;
-    }
-    16
 }
 
-// The byte that the two hexadecimal digits at `at` make, 256 where there are none.
-pub fn hex_byte(s: &[u8], at: usize) -> usize
+// The byte that the two hexadecimal digits at `at` make.
+pub fn hex_byte(s: &[u8], at: usize) -> Option<u8>
     ensures { result ≡ hex_byte s.now at }
 {
-    let high = hex_digit(byte_at(s, at));
-    if high > 15 {
-        return 256;
-    }
-    let low = hex_digit(byte_at(s, at + 1));
-    if low > 15 {
-        return 256;
-    }
-    16 * high + low
+    let high = hex_digit(byte_at(s, at))?;
+    let low = hex_digit(byte_at(s, at + 1))?;
+    Some(16 * high + low)
 }
 
 // Puts the bytes whose digits stand from `at` on at the front of buf, as many as it holds; how many they are.
@@ -211,46 +170,30 @@ pub fn hex_bytes(s: &[u8], at: usize, buf: &mut [u8]) -> usize
     ensures buf_after { buf.new ≡ sets buf.old 0 (hex_bytes (length buf.old) s.now at) }
     ensures counts { Counts result buf.new }
 {
-    let mut n: usize = 0;
     let mut i = at;
-    while n < buf.len() {
-        if i >= s.len() {
-            return n;
-        }
-        let b = hex_byte(s, i);
-        if b > 255 {
-            return n;
-        }
-        buf[n] = b as u8;
-        n += 1;
+    for n in 0..buf.len() {
+        let Some(b) = hex_byte(s, i) else { return n };
+        buf[n] = b;
         i += 2;
     }
-    n
+    buf.len()
 }
 
 // The nearest i32.
 pub fn nearest(v: i64) -> i32
     ensures { result ≡ nearest v }
 {
-    if v < -2147483648 {
-        return -2147483648;
-    }
-    if v > 2147483647 {
-        return 2147483647;
-    }
-    v as i32
+    v.clamp(i64::from(i32::MIN), i64::from(i32::MAX)) as i32
 }
 
 // Where the line after that at `at` stands.
 pub fn next_line(s: &[u8], at: usize) -> usize
     ensures { result ≡ next_line s.now at }
 {
-    let mut i = at;
-    while i < s.len() {
-        if s[i] == 10 {
+    for i in at..s.len() {
+        if s[i] == b'\n' {
             return i + 1;
         }
-        i += 1;
     }
-    i
+    at.max(s.len())
 }

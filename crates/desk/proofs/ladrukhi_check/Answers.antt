@@ -1,11 +1,10 @@
 -- `desk::ladrukhi_check` meets its contract. Assumes nothing.
-use native.Mathlib.Omega.{arith}
-use borrow.Author.Rules.{rules}
-use Rattle.desk.proofs.Cases.{check_accepted, check_refused}
+use mathlib.Core.Path.{refl, ap}
+use Rattle.desk.specs.Desk.{said}
 use Rattle.desk.proofs.ladrukhi_check.Goals as goal
 
-pub returns-in-Accepted : goal.returns-in-Accepted
-returns-in-Accepted c = check_accepted c.args.file.now (λ i. omega (arith, c.type_inv.file i)) c.check.result c.check.ensures _ _ _ c.in-Accepted.is
+pub returns-in-Ok : goal.returns-in-Ok
+returns-in-Ok c = said c.in-Ok.ensures refl
 
-pub returns-in-Refused : goal.returns-in-Refused
-returns-in-Refused c = check_refused c.args.file.now (λ i. omega (arith, c.type_inv.file i)) c.check.result c.check.ensures _ _ c.in-Refused.is
+pub returns-in-Err : goal.returns-in-Err
+returns-in-Err c = rw c.number.ensures (said c.in-Err.ensures refl)

@@ -1,20 +1,14 @@
 -- `desk::saving` meets its contract: the cells in use are lent. Assumes nothing.
-use mathlib.Core.Path.{◌≡◌, sym}
-use native.Mathlib.Omega.{arith}
-use lib.ListN.{length}
-use lib.Seq.{length-take-le}
-use borrow.Author.Rules.{rules}
-use Rattle.desk.proofs.Cases.{saving_over, saving_within}
+use mathlib.Core.Path.{refl}
+use Rattle.std.specs.Prelude.{Ok, Err}
+use Rattle.desk.specs.Desk.{over, within}
 use Rattle.desk.proofs.saving.Goals as goal
 
 pub returns-then-count-gt-CELLS : goal.returns-then-count-gt-CELLS
-returns-then-count-gt-CELLS c = saving_over _ _ _ _ c.if-count-gt-CELLS.true c.over-o.ensures
+returns-then-count-gt-CELLS c = over c.if-count-gt-CELLS.true c.over.ensures c.of.ensures refl
 
-pub slice_bounds-cells-end : goal.slice_bounds-cells-end
-slice_bounds-cells-end c = let e : length c.args.session.cells ≡ 2048 = search rules in omega (arith, e)
+pub returns-in-Ok : goal.returns-in-Ok
+returns-in-Ok c = within (Ok c.in-Ok.written) c.if-count-gt-CELLS.false c.in-Ok.ensures c.of-in-Ok.ensures
 
-pub slice_bounds-save-end : goal.slice_bounds-save-end
-slice_bounds-save-end c = let s = c.args.session in let e : length s.cells ≡ 2048 = search rules in sym (length-take-le s.count s.cells (omega (arith, e)))
-
-pub returns : goal.returns
-returns c = saving_within _ _ _ _ _ _ _ c.if-count-gt-CELLS.false c.save-r.ensures c.in_numbers.ensures
+pub returns-in-Err : goal.returns-in-Err
+returns-in-Err c = within (Err c.in-Err.refusal) c.if-count-gt-CELLS.false c.in-Err.ensures c.of-in-Err.ensures

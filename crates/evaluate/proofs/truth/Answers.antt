@@ -1,34 +1,15 @@
 -- `evaluate::truth` meets its contract: the cases of `Truths`. Assumes nothing.
-use native.Mathlib.Omega.{arith}
-use Rattle.evaluate.proofs.Truths.{truths, compares_near, compares_operator, mid_near}
+use mathlib.Core.Path.{refl}
+use Rattle.evaluate.proofs.Truths.{verdict_of, simple_holds, simple_stops}
 use Rattle.evaluate.proofs.truth.Goals as goal
 
-pub overflow_add-p : goal.overflow_add-p
-overflow_add-p c = omega (arith, compares_near _ _ _ c.compares.ensures c.if-compares.true)
+pub returns-in-Some : goal.returns-in-Some
+returns-in-Some c =
+    simple_holds _ _ _ _ _ c.is_simple.ensures c.if-is_simple.true _ _ (record { sfits = c.leaf-l.type_inv }) (record { sfits = c.leaf-r.type_inv }) _ _ c.leaf-l.ensures c.leaf-r.ensures (rw c.one.ensures.0 at c.if-one-lt-READ.true) _ refl _ c.apply.ensures _ c.in-Some.is
 
-pub leaf-l-requires : goal.leaf-l-requires
-leaf-l-requires c = omega (arith, compares_near _ _ _ c.compares.ensures c.if-compares.true)
-
-pub one-requires : goal.one-requires
-one-requires c = omega (arith, mid_near _ _ _ c.compares.ensures c.if-compares.true _ _ _ c.leaf-l.ensures)
-
-pub leaf-r-requires : goal.leaf-r-requires
-leaf-r-requires c = mid_near _ _ _ c.compares.ensures c.if-compares.true _ _ _ c.leaf-l.ensures
-
-pub overflow_add-at : goal.overflow_add-at
-overflow_add-at c = omega (arith, compares_near _ _ _ c.compares.ensures c.if-compares.true)
-
-pub one-requires-then-one-lt2 : goal.one-requires-then-one-lt2
-one-requires-then-one-lt2 c = omega (arith, compares_near _ _ _ c.compares.ensures c.if-compares.true)
-
-pub compared-requires : goal.compared-requires
-compared-requires c = compares_operator _ _ _ c.compares.ensures c.if-compares.true _ c.one-then-one-lt2.ensures.0
-
-pub returns-then-one-lt2 : goal.returns-then-one-lt2
-returns-then-one-lt2 c = search truths
-
-pub verdict-requires : goal.verdict-requires
-verdict-requires c = search truths
+pub returns-in-None : goal.returns-in-None
+returns-in-None c =
+    simple_stops _ _ _ _ _ c.is_simple.ensures c.if-is_simple.true _ _ (record { sfits = c.leaf-l.type_inv }) (record { sfits = c.leaf-r.type_inv }) _ _ c.leaf-l.ensures c.leaf-r.ensures (rw c.one.ensures.0 at c.if-one-lt-READ.true) _ refl _ c.apply.ensures c.in-None.is
 
 pub returns : goal.returns
-returns c = search truths
+returns c = verdict_of _ _ _ _ _ c.value.ensures c.in_ok-worth.was

@@ -2,7 +2,6 @@
 use mathlib.Core.Path.{◌≡◌}
 use Prim.Native.Nat.{◌≤◌, ◌-◌}
 use lib.ListN.{length}
-use borrow.Author.Rules.{rules}
 use Rattle.files.proofs.read_open.Given as goal
 
 abbrev pub invariant-loop-done : goal.invariant-loop-done

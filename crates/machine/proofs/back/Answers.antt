@@ -4,4 +4,4 @@ use Rattle.machine.proofs.Whole.{step_says}
 use Rattle.machine.proofs.back.Goals as goal
 
 pub returns : goal.returns
-returns c = step_says step_back _ _ _ _ _ _ _ c.run_back-r.ensures
+returns c = step_says step_back _ _ _ _ _ _ _ c.run_back-told.ensures

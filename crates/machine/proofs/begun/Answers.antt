@@ -3,5 +3,5 @@ use Rattle.machine.proofs.WholeCases.{begun_is}
 use Rattle.machine.proofs.begun.Goals as goal
 
 pub returns : goal.returns
-returns c = begun_is c.args.file.now c.args.up c.table-table.result c.number-d.result c.gate-a.result c.along-b.result c.blank-blank.result c.moved-place.result
-    c.table-table.ensures c.number-d.ensures c.gate-a.ensures c.along-b.ensures c.blank-blank.ensures c.moved-place.ensures
+returns c = begun_is c.args.file.now c.args.up c.table-table.result c.from-d.result c.gate-a.result c.along-b.result c.blank.result c.moved.result
+    c.table-table.ensures c.from-d.ensures c.gate-a.ensures c.along-b.ensures c.blank.ensures c.moved.ensures

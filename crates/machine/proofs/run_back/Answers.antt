@@ -3,4 +3,4 @@ use Rattle.machine.proofs.Whole.{back_says}
 use Rattle.machine.proofs.run_back.Goals as goal
 
 pub returns : goal.returns
-returns c = back_says _ _ _ _ _ _ _ _ _ (rw c.turned.ensures at c.run-r.ensures) c.turned-2.ensures
+returns c = back_says _ _ _ _ _ _ _ _ _ (rw c.turned.ensures at c.run-ran.ensures) c.turned-2.ensures

@@ -1,9 +1,13 @@
 -- `machine::start` meets its contract. Assumes nothing.
-use Rattle.machine.proofs.Starts.{refused_start, started_says}
+use mathlib.Core.Path.{◌∙◌, ap}
+use Rattle.std.specs.Prelude.{Err}
+use Rattle.std.proofs.lemmas.Result.{err_from_is_err_and}
+use Rattle.machine.specs.Answers.{refused}
+use Rattle.machine.proofs.Starts.{started_says}
 use Rattle.machine.proofs.start.Goals as goal
 
-pub returns-in-Refused : goal.returns-in-Refused
-returns-in-Refused c = refused_start c.args.file.now c.check.result c.check.ensures c.args.up _ _ c.in-Refused.is _ c.blank-place.ensures
+pub returns-in_err-check : goal.returns-in_err-check
+returns-in_err-check c = let p = err_from_is_err_and c.from_residual.result c.from_residual.ensures.1 in refused c.in_err-check.ensures (p.1 ∙ ap Err p.2)
 
-pub returns-in-Accepted : goal.returns-in-Accepted
-returns-in-Accepted c = started_says c.args.file.now c.check.result c.check.ensures c.args.up _ _ _ c.in-Accepted.is _ c.begun.ensures
+pub returns : goal.returns
+returns c = started_says c.args.file.now c.args.up _ c.in_ok-check.ensures _ c.begun.ensures

@@ -4,4 +4,4 @@ use Rattle.machine.proofs.Whole.{step_says}
 use Rattle.machine.proofs.step.Goals as goal
 
 pub returns : goal.returns
-returns c = step_says step _ _ _ _ _ _ _ c.run-r.ensures
+returns c = step_says step _ _ _ _ _ _ _ c.run-told.ensures

@@ -4,4 +4,4 @@ use Rattle.machine.proofs.went.Goals as goal
 
 pub returns : goal.returns
 returns c = copied_goes _ _ _ _ _ _ _ _ _ _ _ _ _ _
-    c.padded-bytes.ensures c.arrays-arrays.ensures c.map-map.ensures c.calls-calls.ensures.0 c.widened-cells.ensures c.go-went.ensures c.restored.ensures
+    c.padded-bytes.ensures c.arrays-arrays.ensures c.map-map.ensures c.calls-calls.ensures c.widened-cells.ensures c.go-ran.ensures c.restored.ensures

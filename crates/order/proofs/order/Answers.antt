@@ -1,36 +1,36 @@
--- `order::order` meets its contract. The loop's invariant: as many records as were passed, at most 16 open, and the file's answer is that of
--- what is left. The measure is what is left of the length. Assumes nothing.
-use Prim.Native.Nat.{◌+◌, ◌-◌, ◌≤◌}
-use mathlib.Core.Path.{◌≡◌, ap, sym, ◌∙◌}
-use native.Mathlib.Omega.{arith}
-use borrow.Author.Rules.{rules}
-use lib.ListN.{length}
-use Rattle.order.specs.Order.{order_of}
-use Rattle.records.specs.Walk.{offsets, kinds_at}
-use Rattle.order.proofs.OrderWalk.{Left, left_start, left_on, left_stuck, left_whole, left_short}
+-- `order::order` meets its contract: the order of the records left is that of the whole file.
+use Rattle.std.proofs.Common.{◌≡◌, arith, sym, ap, ◌∙◌, length}
+use Rattle.records.specs.Walk.{offsets}
+use Rattle.records.specs.Left.{offsets_left}
+use Rattle.records.proofs.Offsets.{offsets_few}
+use Rattle.order.specs.Order.{next, order_of}
+use Rattle.order.proofs.OrderWalk.{left_on, left_stuck, left_whole, left_short, live, stuck}
 use Rattle.order.proofs.order.Goals as goal
 
 pub loop-at-init : goal.loop-at-init
-loop-at-init c = ((omega arith, omega arith), (omega arith, left_start _ _))
+unfolding offsets order_of
+loop-at-init c =
+    let file = c.args.file.now in
+    let all : offsets_left c.into_iter-at-iterator.result ≡ offsets file = ap offsets_left c.into_iter-at-iterator.ensures.into_iter_gives ∙ c.of-at-items.ensures in
+    record { room = omega (arith, ap length all, offsets_few (length file) file 0); same = rw (c.new-open.ensures, all) }
 
-pub returns-then-o-eq5 : goal.returns-then-o-eq5
-returns-then-o-eq5 c = sym (c.loop-at.invariant.1.1 ∙ left_stuck c.args.file.now c.loop-at.n c.loop-at.at c.loop-at.o c.after-o.result c.kind_at.result
-    (omega arith) (omega arith) c.kind_at.ensures.0 c.after-o.ensures (omega arith))
+pub returns-then-is_misplaced : goal.returns-then-is_misplaced
+returns-then-is_misplaced c =
+    let none = stuck c.after-open.result (sym c.is_misplaced.ensures ∙ c.if-is_misplaced.true) in
+    let came = ap (next c.loop-at.open) (sym c.kind_at.ensures.0) ∙ (sym c.after-open.ensures ∙ none) in
+    sym (left_stuck c.args.file.now _ _ _ _ _ c.in-Some.ensures.steps came) ∙ c.loop-at.invariant.same
 
 pub loop-at-preserved : goal.loop-at-preserved
-loop-at-preserved c = let f = c.args.file.now in (
-  (omega arith, omega arith),
-  (
-    c.after-o.ensures.room,
-    c.loop-at.invariant.1.1
-        ∙ (left_on f c.loop-at.n c.loop-at.at c.loop-at.o c.after-o.result c.kind_at.result
-        (omega arith) (omega arith) c.kind_at.ensures.0 c.after-o.ensures (λ e. omega arith)
-        ∙ ap (λ i. Left f (c.loop-at.n + 1) i c.after-o.result) (sym c.next_at-at.ensures)),
-  ),
-)
+loop-at-preserved c =
+    let steps = c.in-Some.ensures.steps in
+    let some = live c.after-open.result (sym c.is_misplaced.ensures ∙ c.if-is_misplaced.false) in
+    let came = ap (next c.loop-at.open) (sym c.kind_at.ensures.0) ∙ (sym c.after-open.ensures ∙ some) in
+    record { room = omega (arith, ap length steps); same = sym (left_on c.args.file.now _ _ _ _ _ steps _ came) ∙ c.loop-at.invariant.same }
 
-pub returns-then-o-eq2 : goal.returns-then-o-eq2
-returns-then-o-eq2 c = sym (c.loop-at.invariant.1.1 ∙ left_whole c.args.file.now c.loop-at.n c.loop-at.at c.loop-at.o (omega arith) (omega arith))
+pub returns-then-is_whole : goal.returns-then-is_whole
+returns-then-is_whole c =
+    sym (left_whole c.args.file.now _ _ _ c.in-None.ensures.steps.0 (sym c.is_whole.ensures ∙ c.if-is_whole.true)) ∙ c.loop-at.invariant.same
 
-pub returns : goal.returns
-returns c = sym (c.loop-at.invariant.1.1 ∙ left_short c.args.file.now c.loop-at.n c.loop-at.at c.loop-at.o (omega arith) (λ e. omega arith))
+pub returns-else-is_whole : goal.returns-else-is_whole
+returns-else-is_whole c =
+    sym (left_short c.args.file.now _ _ _ c.in-None.ensures.steps.0 (sym c.is_whole.ensures ∙ c.if-is_whole.false)) ∙ c.loop-at.invariant.same

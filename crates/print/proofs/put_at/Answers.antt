@@ -1,6 +1,5 @@
 -- `print::put_at` meets its contract: the word is the direction's. Assumes nothing.
-use borrow.Author.Rules.{rules}
-use borrow.Author.Tests.{eq-eqb, ne_eqb}
+use borrow.Author.Tests.{eq-eqb}
 use Rattle.print.proofs.put_at.Goals as goal
 
 pub returns-then-direction-eq-DOWN : goal.returns-then-direction-eq-DOWN

@@ -1,5 +1,4 @@
 -- `print::put_pair` meets its contract: its pieces, one after another. Assumes nothing.
-use borrow.Author.Rules.{rules}
 use Rattle.print.specs.Lines.{pair}
 use Rattle.print.proofs.Rows.{none, piece}
 use Rattle.print.proofs.put_pair.Goals as goal

@@ -1,5 +1,4 @@
 -- `print::put_refused` meets its contract: with the record or without. Assumes nothing.
-use borrow.Author.Rules.{rules}
 use borrow.Author.Tests.{lt-ltb, le-ltb}
 use Rattle.print.proofs.Rows.{none, piece}
 use Rattle.print.proofs.put_refused.Goals as goal

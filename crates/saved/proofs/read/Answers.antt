@@ -1,11 +1,8 @@
--- `saved::read` meets its contract. Assumes nothing.
-use borrow.Author.Rules.{rules}
-use Rattle.saved.proofs.Counts.{counted}
-use Rattle.saved.proofs.ReadCases.{read_program}
+-- `saved::read` meets its contract: what the check refuses is refused. Assumes nothing.
+use Rattle.std.proofs.Common.{refl}
+use Rattle.std.proofs.lemmas.Result.{err_from_is_err_and}
+use Rattle.saved.specs.Answers.{program}
 use Rattle.saved.proofs.read.Goals as goal
 
-pub taken-requires : goal.taken-requires
-taken-requires c = counted _ c.check.result c.check.ensures _ _ _ c.in-Accepted.is
-
-pub returns-in-Refused : goal.returns-in-Refused
-returns-in-Refused c = read_program c.args.file.now _ _ c.check.result c.check.ensures _ _ c.in-Refused.is _ c.refuses.ensures
+pub returns-in_err-counts : goal.returns-in_err-counts
+returns-in_err-counts c = let p = err_from_is_err_and c.from_residual.result c.from_residual.ensures.1 in rw (p.1, p.2) (program c.in_err-counts.ensures, refl)

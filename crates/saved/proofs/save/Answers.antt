@@ -1,11 +1,10 @@
--- `saved::save` meets its contract. Assumes nothing.
-use borrow.Author.Rules.{rules}
-use Rattle.saved.proofs.Counts.{counted}
-use Rattle.saved.proofs.SaveCases.{save_program}
+-- `saved::save` meets its contract: what the check refuses is refused. Assumes nothing.
+use Rattle.std.proofs.Common.{refl}
+use Rattle.std.proofs.lemmas.Result.{err_from_is_err_and}
+use Rattle.machine.specs.Answers.{program}
+use Rattle.saved.specs.Answers.{before}
 use Rattle.saved.proofs.save.Goals as goal
 
-pub put-requires : goal.put-requires
-put-requires c = counted _ c.check.result c.check.ensures _ _ _ c.in-Accepted.is
-
-pub returns-in-Refused : goal.returns-in-Refused
-returns-in-Refused c = save_program c.args.file.now _ _ _ c.check.result c.check.ensures _ _ c.in-Refused.is _ c.writes_none.ensures
+pub returns-in_err-counts : goal.returns-in_err-counts
+returns-in_err-counts c =
+    let p = err_from_is_err_and c.from_residual.result c.from_residual.ensures.1 in rw (p.1, p.2) (before (program c.in_err-counts.ensures), refl)

@@ -1,14 +1,10 @@
--- `session::cells_in` meets its contract: the cases of `Saving`. Assumes nothing.
-use borrow.Author.Rules.{rules}
-use native.Mathlib.Omega.{arith}
-use Rattle.session.proofs.Saving.{readings, right}
+-- `session::cells_in` meets its contract. Assumes nothing.
+use Rattle.std.proofs.Common.{arith}
+use Rattle.session.proofs.Saving.{cells_within, count_is}
 use Rattle.session.proofs.cells_in.Goals as goal
 
-pub returns-then-not-well_formed : goal.returns-then-not-well_formed
-returns-then-not-well_formed c = search readings
-
 pub overflow_sub-result : goal.overflow_sub-result
-overflow_sub-result c = let y = right _ _ c.if-not-well_formed.false-raw c.well_formed-2.ensures in omega (arith, y.head.room)
+overflow_sub-result c = omega (arith, cells_within c.args.saved.now c.if-not-well_formed.ensures)
 
 pub returns : goal.returns
-returns c = search readings
+returns c = grind (arith, count_is c.args.saved.now c.if-not-well_formed.ensures)

@@ -1,15 +1,8 @@
 -- `session::column_at` meets its contract. The loop's invariant: filling the slots left gives what filling all gives. Assumes nothing.
-use mathlib.Core.Path.{◌≡◌, sym, ap, ◌∙◌}
-use Prim.Native.Nat.{◌+◌, ◌*◌, ◌-◌, ◌≤◌}
-use native.Mathlib.Omega.{arith}
-use lib.ListN.{drop}
-use Rattle.place.specs.declared.Place.{Place as Held}
+use Rattle.std.proofs.Common.{◌≡◌, ◌+◌, ◌-◌, ◌*◌, drop}
 use Rattle.place.specs.Methods.{zeros}
-use Rattle.session.proofs.Rows.{fill, fill_slots, fill_go, fill_end}
+use Rattle.session.proofs.Rows.{fill}
 use Rattle.session.proofs.column_at.Given as goal
 
-abbrev pub invariant-loop-m : goal.invariant-loop-m
-invariant-loop-m l = (l.m ≤ l.n) × ((l.p ≡ l.at + 4 * (l.n - l.m)) × (fill l.n (drop l.at l.b) zeros ≡ fill l.m (drop l.p l.b) l.s))
-
-abbrev pub decreases-loop-m : goal.decreases-loop-m
-decreases-loop-m l = l.m
+abbrev pub invariant-loop-i : goal.invariant-loop-i
+invariant-loop-i l = fill l.n (drop l.at l.b) zeros ≡ fill (l.n - l.i) (drop (l.at + 4 * l.i) l.b) l.s

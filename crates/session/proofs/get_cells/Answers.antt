@@ -1,20 +1,10 @@
--- `session::get_cells` meets its contract: the cases of `Saving`. Assumes nothing.
-use borrow.Author.Rules.{rules}
-use native.Mathlib.Omega.{arith}
-use Rattle.session.proofs.Saving.{readings, right}
+-- `session::get_cells` meets its contract. Assumes nothing.
+use Rattle.std.proofs.Common.{arith}
+use Rattle.session.proofs.Saving.{cells_start_few, fill_is}
 use Rattle.session.proofs.get_cells.Goals as goal
 
-pub returns-then-not-well_formed : goal.returns-then-not-well_formed
-returns-then-not-well_formed c = search readings
-
-pub overflow_sub-saved : goal.overflow_sub-saved
-overflow_sub-saved c = let y = right _ _ c.if-not-well_formed.false-raw c.well_formed-2.ensures in omega (arith, y.head.room)
-
-pub returns-then-saved-at : goal.returns-then-saved-at
-returns-then-saved-at c = search readings
-
 pub copy_cells-requires : goal.copy_cells-requires
-copy_cells-requires c = let y = right _ _ c.if-not-well_formed.false-raw c.well_formed-2.ensures in omega (arith, y.head.count)
+copy_cells-requires c = omega (arith, cells_start_few c.args.saved.now _ c.in-Some.ensures)
 
-pub returns : goal.returns
-returns c = search readings
+pub returns-then-n-store : goal.returns-then-n-store
+returns-then-n-store c = fill_is c.args.saved.now _ c.in-Some.ensures _ c.if-n-store.true _ c.short.ensures.0 _ c.copy_cells.ensures

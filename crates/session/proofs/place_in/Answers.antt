@@ -1,14 +1,15 @@
--- `session::place_in` meets its contract: the cases of `Saving`. Assumes nothing.
-use borrow.Author.Rules.{rules}
-use native.Mathlib.Omega.{arith}
-use Rattle.session.proofs.Saving.{readings, right}
+-- `session::place_in` meets its contract. Assumes nothing.
+use Rattle.std.proofs.Common.{arith}
+use Rattle.session.specs.Answers.{held_at}
+use Rattle.session.proofs.Saving.{few_frames, place_is}
 use Rattle.session.proofs.place_in.Goals as goal
 
-pub returns-then-not-well_formed : goal.returns-then-not-well_formed
-returns-then-not-well_formed c = search readings
+pub column_at-requires : goal.column_at-requires
+column_at-requires c = omega (arith, few_frames c.args.saved.now c.if-not-well_formed.ensures)
 
-pub placed-requires : goal.placed-requires
-placed-requires c = let y = right _ _ c.if-not-well_formed.false-raw c.well_formed-2.ensures in omega (arith, y.head.count)
+pub column_at-requires-2 : goal.column_at-requires-2
+column_at-requires-2 c = omega (arith, few_frames c.args.saved.now c.if-not-well_formed.ensures)
 
 pub returns : goal.returns
-returns c = search readings
+unfolding held_at
+returns c = cc (place_is c.args.saved.now c.if-not-well_formed.ensures)

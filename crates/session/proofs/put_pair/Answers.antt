@@ -1,5 +1,4 @@
 -- `session::put_pair` meets its contract. Assumes nothing.
-use borrow.Author.Rules.{rules}
 use Rattle.session.proofs.Writing.{pair}
 use Rattle.session.proofs.put_pair.Goals as goal
 

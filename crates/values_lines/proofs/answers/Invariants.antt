@@ -1,13 +1,6 @@
--- `values_lines::answers` is safe and ends: each turn goes past a line. Assumes nothing.
-use mathlib.Core.Path.{◌≡◌}
-use Prim.Native.Nat.{◌≤◌, ◌-◌}
-use lib.ListN.{length}
-use borrow.Author.Rules.{rules}
-use Rattle.words.proofs.Lines.{falls}
+-- `values_lines::answers` meets its contract: the position stays within. Assumes nothing.
+use Rattle.std.proofs.Common.{◌≤◌, length}
 use Rattle.values_lines.proofs.answers.Given as goal
 
 abbrev pub invariant-loop-at : goal.invariant-loop-at
-invariant-loop-at l = (l.end ≤ length l.out) × (length l.out ≡ length l.initial.out)
-
-abbrev pub decreases-loop-at : goal.decreases-loop-at
-decreases-loop-at l = length l.s - l.at
+invariant-loop-at l = l.end ≤ length l.out

@@ -1,22 +1,17 @@
 -- `words::put_decimal` meets its contract: the digits stand at the front of `text`. Assumes nothing.
-use mathlib.Core.Path.{◌≡◌, sym, ap, ◌∙◌}
+use mathlib.Core.Path.{sym, ap, ◌∙◌}
 use native.Mathlib.Omega.{arith}
-use lib.ListN.{length, take}
-use lib.Seq.{length-sets, length-take-le}
-use borrow.Author.Rules.{rules}
+use lib.ListN.{take}
+use lib.Seq.{length-take-le}
 use Rattle.words.specs.Words.{decimal}
 use Rattle.words.proofs.Writing.{said, front, length_digits}
 use Rattle.words.proofs.put_decimal.Goals as goal
 
 pub slice_bounds-text-end : goal.slice_bounds-text-end
-slice_bounds-text-end c = let d = c.digits-end in
-    let n : length d.new.text ≡ 21 = ap length d.ensures.text_after ∙ simp length-sets in
-    omega (arith, d.ensures.value, length_digits 19 c.args.n)
+slice_bounds-text-end c = omega (arith, c.digits-end.ensures.value, length_digits 19 c.args.n)
 
 pub slice_bounds-put_bytes-end : goal.slice_bounds-put_bytes-end
-slice_bounds-put_bytes-end c = let d = c.digits-end in
-    let n : length d.new.text ≡ 21 = ap length d.ensures.text_after ∙ simp length-sets in
-    sym (length-take-le _ _ (omega (arith, d.ensures.value, length_digits 19 c.args.n)))
+slice_bounds-put_bytes-end c = sym (length-take-le _ _ (omega (arith, c.digits-end.ensures.value, length_digits 19 c.args.n)))
 
 pub returns : goal.returns
 returns c = let h = said c.args.buf.now c.put_bytes.new.buf _ (decimal c.args.n) c.args.at c.put_bytes.result

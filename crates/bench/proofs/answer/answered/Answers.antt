@@ -1,20 +1,24 @@
 -- `bench::answer::answered` meets its contract: the store that is lent has the program's size. Assumes nothing.
-use mathlib.Core.Path.{◌≡◌, sym, ap, ◌∙◌}
+use mathlib.Core.Path.{sym, ◌∙◌}
 use native.Mathlib.Omega.{arith}
-use lib.ListN.{length}
 use lib.Seq.{length-take-le}
-use borrow.Author.Rules.{rules}
-use Rattle.print.proofs.Zeros.{length_noughts}
-use Rattle.bench.proofs.Answering.{answered_room}
+use Rattle.program.proofs.Few.{counts_few, accepted_counts}
+use Rattle.bench.proofs.Answering.{unchecked, lent, answered_room}
 use Rattle.bench.proofs.answer.answered.Goals as goal
 
 pub slice_bounds-store-end : goal.slice_bounds-store-end
-slice_bounds-store-end c = let e : length c.zeros-store.result ≡ 2048 = ap length c.zeros-store.ensures ∙ length_noughts 2048 in
-    omega (arith, c.cells_of-cells.ensures.few, e)
+slice_bounds-store-end c = omega (arith, counts_few _ c.check.result c.check.ensures _ c.in-Ok.is)
+
+pub slice_bounds-opened-end : goal.slice_bounds-opened-end
+slice_bounds-opened-end c = sym (length-take-le _ _ (omega (arith, counts_few _ c.check.result c.check.ensures _ c.in-Ok.is)))
 
 pub opened-requires : goal.opened-requires
-opened-requires c = let e : length c.zeros-store.result ≡ 2048 = ap length c.zeros-store.ensures ∙ length_noughts 2048 in
-    λ t A. length-take-le _ _ (omega (arith, c.cells_of-cells.ensures.few, e)) ∙ c.cells_of-cells.ensures.cells_are t A
+opened-requires c = lent (λ i. omega (arith, c.type_inv.file i)) (_, _, accepted_counts _ c.check.result c.check.ensures _ c.in-Ok.is) _
+    (length-take-le _ _ (omega (arith, counts_few _ c.check.result c.check.ensures _ c.in-Ok.is)))
 
-pub returns : goal.returns
-returns c = record { answers = c.opened.ensures; room = answered_room c.opened.ensures }
+pub returns-in-Err : goal.returns-in-Err
+returns-in-Err c = let x = unchecked (λ i. omega (arith, c.type_inv.file i)) c.in-Err.refusal c.check.ensures c.in-Err.is (c.refused.ensures c.args.buffer.now) in
+    record { answers = x; room = answered_room x }
+
+pub returns-in-Ok : goal.returns-in-Ok
+returns-in-Ok c = record { answers = c.opened.ensures; room = answered_room c.opened.ensures }

@@ -2,7 +2,6 @@
 use mathlib.Core.Path.{refl}
 use native.Mathlib.Omega.{arith}
 use mir.Facts.{to_z-of_z}
-use borrow.Author.Rules.{rules}
 use Rattle.bench.specs.Answers as answers
 use Rattle.bench.proofs.Answering.{keeps, nothing, put_cell}
 use Rattle.bench.proofs.answer.set.Goals as goal
@@ -14,4 +13,4 @@ pub saved-requires : goal.saved-requires
 saved-requires c = put_cell _ _ c.requires
 
 pub returns : goal.returns
-returns c = λ text. answers.sets {i = c.args.cell} (omega arith) (keeps (rw (to_z-of_z c.ranges.value) at c.saved.ensures) (nothing text))
+returns c = λ text. answers.sets {i = c.args.cell} (omega arith) refl (keeps (rw (to_z-of_z c.ranges.value) at c.saved.ensures) (nothing text))

@@ -10,5 +10,4 @@ returns c = λ b. record {
   none = refl;
   kept = refl;
   lines = tells_shown c.args.text.now c.put_cells.new.buf _ c.args.place c.args.store.now (search rules) c.requires (joined _ _ _ _ _ _ _ _ (c.put_at-i.ensures.value, c.put_at-i.ensures.buf_after) (joined _ _ _ _ _ _ _ _ (c.put_frames-j.ensures.value, c.put_frames-j.ensures.buf_after) (c.put_cells.ensures.value, c.put_cells.ensures.buf_after)));
-  right = refl;
 }

@@ -1,19 +1,17 @@
 -- `bench::number::read_natural` meets its contract. Assumes nothing.
-use borrow.Author.Rules.{rules}
-use Rattle.bench.proofs.Numbers.{numbers}
+use Rattle.std.proofs.Common.{rules, arith}
+use Rattle.std.proofs.lemmas.Grind.{common_steps}
+use Rattle.bench.specs.Numbers.{whole, longest, natural_of, narrowed, integer_of}
+use mathlib.Core.Path.{◌∙◌}
+use mir.Syntax.{w64}
+use mir.Facts.{to_z-of_z}
+use Rattle.bench.proofs.Numbers.{fits_natural}
 use Rattle.bench.proofs.number.read_natural.Goals as goal
 
-pub returns-then-word-eq0 : goal.returns-then-word-eq0
-returns-then-word-eq0 c = search numbers
-
-pub returns-then-word-gt10 : goal.returns-then-word-gt10
-returns-then-word-gt10 c = search numbers
-
-pub returns-then-n-word : goal.returns-then-n-word
-returns-then-n-word c = search numbers
-
-pub returns-then-n-gt4294967295 : goal.returns-then-n-gt4294967295
-returns-then-n-gt4294967295 c = search numbers
+pub returns-in_err-n : goal.returns-in_err-n
+unfolding natural_of narrowed
+returns-in_err-n c = grind (arith, common_steps)
 
 pub returns : goal.returns
-returns c = search numbers
+unfolding natural_of narrowed
+returns c = let e = c.ok.ensures.value ∙ fits_natural c.try_from.result c.in_ok-n.n c.try_from.ensures in grind (arith, common_steps)

@@ -8,5 +8,5 @@ use Rattle.bench.proofs.shell.check.Goals as goal
 pub slice_bounds-text-end : goal.slice_bounds-text-end
 slice_bounds-text-end c = checks_room c.checked-n.ensures
 
-pub slice_bounds-say-end-2 : goal.slice_bounds-say-end-2
-slice_bounds-say-end-2 c = sym (length-take-le _ _ (checks_room c.checked-n.ensures))
+pub slice_bounds-say-end : goal.slice_bounds-say-end
+slice_bounds-say-end c = sym (length-take-le _ _ (checks_room c.checked-n.ensures))

@@ -5,5 +5,5 @@ use Rattle.decide.proofs.Spot.again.Goals as goal
 pub returns-then-kind-eq-IN_SECOND : goal.returns-then-kind-eq-IN_SECOND
 returns-then-kind-eq-IN_SECOND c = search acts
 
-pub returns : goal.returns
-returns c = search acts
+pub returns-else-kind-eq-IN_SECOND : goal.returns-else-kind-eq-IN_SECOND
+returns-else-kind-eq-IN_SECOND c = search acts

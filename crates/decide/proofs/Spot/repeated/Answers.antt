@@ -2,8 +2,8 @@
 use Rattle.decide.proofs.DecideCases.{acts}
 use Rattle.decide.proofs.Spot.repeated.Goals as goal
 
-pub returns-then-v-eq0 : goal.returns-then-v-eq0
-returns-then-v-eq0 c = search acts
+pub returns-then-not-v : goal.returns-then-not-v
+returns-then-not-v c = search acts
 
 pub returns : goal.returns
 returns c = search acts

@@ -1,15 +1,15 @@
 -- `decide::set::set_entry` meets its contract: the cases of `SetCases`. Assumes nothing.
-use Rattle.decide.proofs.SetCases.{entered, casts}
+use Rattle.std.proofs.lemmas.Result.{err_from_is_err_and}
+use Rattle.decide.proofs.SetCases.{entry_stop, entry_none, entry_done}
 use Rattle.decide.proofs.set.set_entry.Goals as goal
 
-pub returns-then-i-gt-MOST : goal.returns-then-i-gt-MOST
-returns-then-i-gt-MOST c = search entered
+pub returns-in_err-i : goal.returns-in_err-i
+returns-in_err-i c =
+    let p = err_from_is_err_and c.from_residual.result c.from_residual.ensures.1 in
+    rw (p.1, p.2) (entry_stop _ _ _ _ _ _ _ _ c.amount.ensures _ c.in_err-i.was)
 
-pub overflow_cast-i : goal.overflow_cast-i
-overflow_cast-i c = search casts
+pub returns-in-Some : goal.returns-in-Some
+returns-in-Some c = entry_done _ _ _ _ _ _ _ _ c.amount.ensures _ c.in_ok-i.was _ c.entry_of.ensures _ _ _ c.in-Some.is c.set_cell.ensures
 
-pub returns-in-At : goal.returns-in-At
-returns-in-At c = search entered
-
-pub returns-in-Outside : goal.returns-in-Outside
-returns-in-Outside c = search entered
+pub returns-in-None : goal.returns-in-None
+returns-in-None c = entry_none _ _ _ _ _ _ _ _ c.amount.ensures _ c.in_ok-i.was _ c.entry_of.ensures c.in-None.is

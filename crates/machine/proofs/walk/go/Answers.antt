@@ -1,36 +1,28 @@
 -- `machine::walk::go` meets its contract: a turn, and the end, by `WalkCases`. Assumes nothing.
+use mathlib.Core.Path.{refl, ◌∙◌}
 use native.Mathlib.Omega.{arith}
-use Rattle.decide.specs.Ways.{rule_in}
+use Rattle.decide.specs.Ways.{rule_in, sight}
 use Rattle.machine.specs.Walk.{stand_of}
-use Rattle.machine.proofs.WalkCases.{given, go_start, goes_refused, goes_on, goes_done}
+use Rattle.machine.proofs.WalkCases.{go_start, goes_refused, goes_on, goes_done}
 use Rattle.machine.proofs.walk.go.Goals as goal
 
-pub overflow_mul-depth : goal.overflow_mul-depth
-overflow_mul-depth c = omega (arith, c.requires.1)
-
-pub overflow_add-depth : goal.overflow_add-depth
-overflow_add-depth c = omega (arith, c.requires.0, c.requires.1)
-
 pub loop-made-init : goal.loop-made-init
-loop-made-init c = (omega arith, go_start _ _ _ _ _)
+loop-made-init c = go_start (rule_in c.args.bytes.now c.args.map.now c.args.arrays.now) c.args.n c.args.place c.args.calls c.from.result c.args.cells.now c.requires.0 (c.from.ensures ∙ c.way_to.ensures)
 
-pub returns-then-m-ne-MADE : goal.returns-then-m-ne-MADE
-returns-then-m-ne-MADE c =
+pub returns-in-Err : goal.returns-in-Err
+unfolding sight
+returns-in-Err c =
     let l = c.loop-made in
-    let m = c.decide-m in
-    let g = given c.args.place c.args.calls c.way_of-way.result c.requires.0 c.way_of-way.ensures in
-    goes_refused (rule_in c.args.bytes.now c.args.map.now c.args.arrays.now) c.args.n _ _ c.args.cells.now l.made l.way l.a l.depth l.kinds l.labels l.cells l.invariant.1 c.spot-s.result c.spot-s.ensures m.result m.new.kinds m.new.labels m.new.cells m.ensures c.loop-made-test.true (stand_of c.args.place) c.args.calls g.0 g.1 _ c.if-m-ne-MADE.true c.ended.ensures
+    rw (c.placed.ensures, c.at.ensures)
+    (goes_refused (rule_in c.args.bytes.now c.args.map.now c.args.arrays.now) c.args.n (stand_of c.args.place) c.args.calls c.args.cells.now l.made l.at l.kinds l.labels l.cells l.invariant _ c.decide.new.kinds c.decide.new.labels c.decide.new.cells (rw c.spot-here.ensures at c.in-Err.ensures) c.loop-made-test.true _ refl)
 
 pub loop-made-preserved : goal.loop-made-preserved
+unfolding sight
 loop-made-preserved c =
     let l = c.loop-made in
-    let m = c.decide-m in (
-      omega (arith, c.loop-made-test.true),
-      goes_on (rule_in c.args.bytes.now c.args.map.now c.args.arrays.now) c.args.n _ _ c.args.cells.now l.made l.way l.a l.depth l.kinds l.labels l.cells l.invariant.1 c.spot-s.result c.spot-s.ensures m.result m.new.kinds m.new.labels m.new.cells m.ensures c.loop-made-test.true c.if-m-ne-MADE.false,
-    )
+    goes_on (rule_in c.args.bytes.now c.args.map.now c.args.arrays.now) c.args.n (stand_of c.args.place) c.args.calls c.args.cells.now l.made l.at l.kinds l.labels l.cells l.invariant _ c.decide.new.kinds c.decide.new.labels c.decide.new.cells (rw c.spot-here.ensures at c.in-Ok.ensures) c.loop-made-test.true _ refl
 
 pub returns : goal.returns
 returns c =
     let l = c.loop-made in
-    let g = given c.args.place c.args.calls c.way_of-way.result c.requires.0 c.way_of-way.ensures in
-    goes_done _ _ _ _ _ _ _ _ _ _ _ _ l.invariant.1 (stand_of c.args.place) c.args.calls g.0 g.1 _ c.loop-made-test.false c.ended-2.ensures
+    rw c.placed-2.ensures (goes_done (rule_in c.args.bytes.now c.args.map.now c.args.arrays.now) c.args.n (stand_of c.args.place) c.args.calls c.args.cells.now l.made l.at l.kinds l.labels l.cells l.invariant (omega arith))

@@ -1,15 +1,7 @@
--- `reading::tests` meets its contract: the cases of `Cases`.
-use Rattle.records.proofs.Cases.{sorting}
+-- `records::reading::tests` meets its contract: a number that has a kind does what the kind does. Assumes nothing.
+use mathlib.Core.Path.{sym}
+use Rattle.records.proofs.Thirteen.{tests_some}
 use Rattle.records.proofs.reading.tests.Goals as goal
 
-pub returns-then-kind-eq5 : goal.returns-then-kind-eq5
-returns-then-kind-eq5 c = search sorting
-
-pub returns-then-kind-eq7 : goal.returns-then-kind-eq7
-returns-then-kind-eq7 c = search sorting
-
-pub returns-then-kind-eq8 : goal.returns-then-kind-eq8
-returns-then-kind-eq8 c = search sorting
-
 pub returns : goal.returns
-returns c = search sorting
+returns c = tests_some c.args.kind c.in-Some.kind (sym c.in-Some.ensures) c.is_test.result c.is_test.ensures

@@ -1,48 +1,35 @@
--- `reading::walk` meets its contract: the walk from here on is the walk of the whole file. The measure is the bytes that are left.
-use Prim.Native.Nat.{◌≤◌, ◌-◌}
-use mathlib.Core.Path.{◌≡◌, sym, ap, ◌∙◌}
-use native.Mathlib.Numerals.{add-one}
-use native.Mathlib.Omega.{arith}
-use lib.ListN.{length}
+-- `reading::walk` meets its contract: the walk over the records left is the walk of the whole file.
+use Rattle.std.proofs.Common.{◌≡◌, sym, ◌∙◌, ap, arith, add-one, length}
 use Rattle.records.specs.Records.{is_begin}
-use Rattle.records.specs.Reading.{wrong_at, walk_of}
-use Rattle.records.proofs.Walking.{walk_at, walk_all, walk_end, walk_on, walk_stop}
-use Rattle.records.proofs.Cases.{begin_most}
+use Rattle.records.specs.Walk.{offsets, kind_at}
+use Rattle.records.specs.Reading.{walk_of, walk_over}
+use Rattle.records.specs.Left.{offsets_left}
+use Rattle.records.proofs.Offsets.{offsets_few}
+use Rattle.records.proofs.Walking.{over_on, over_stop}
+use Rattle.records.proofs.Cases.{begin_byte, begin_most}
 use Rattle.records.proofs.reading.walk.Goals as goal
 
 pub loop-at-init : goal.loop-at-init
-loop-at-init c = (omega arith, (omega arith, sym (walk_all c.args.file.now)))
+unfolding offsets walk_of
+loop-at-init c =
+    let file = c.args.file.now in
+    let all : offsets_left c.into_iter-at-iterator.result ≡ offsets file = ap offsets_left c.into_iter-at-iterator.ensures.into_iter_gives ∙ c.of-at-items.ensures in
+    record { room = omega (arith, ap length all, offsets_few (length file) file 0); begun = omega arith; same = ap (λ ats. walk_over file ats 0 0) all }
 
-pub returns-then-n-ne0 : goal.returns-then-n-ne0
-returns-then-n-ne0 c = let l = c.loop-at in
-    let a = c.args in
-    let w = c.wrong-n in
-    sym (walk_stop a.file.now l.at l.k l.b (omega arith) w.result (sym w.ensures) c.if-n-ne0.true) ∙ l.invariant.1.1
-
-pub overflow_add-b : goal.overflow_add-b
-overflow_add-b c = omega (arith, begin_most c.kind_at.result, c.is_begin-b.ensures)
-
-pub overflow_add-at : goal.overflow_add-at
-overflow_add-at c = omega (arith, c.stride-at.ensures.1)
-
-pub loop-at-smaller : goal.loop-at-smaller
-loop-at-smaller c = omega (arith, c.stride-at.ensures.0)
+pub returns-in-Some-wrong : goal.returns-in-Some-wrong
+returns-in-Some-wrong c =
+    let stop = over_stop c.args.file.now _ _ _ _ _ c.in-Some.ensures.steps _ (sym c.wrong.ensures ∙ c.in-Some-wrong.is) in
+    rw c.at.ensures (sym stop ∙ c.loop-at.invariant.same)
 
 pub loop-at-preserved : goal.loop-at-preserved
-loop-at-preserved c = let l = c.loop-at in
-    let a = c.args in
-    let w = c.wrong-n in
-    let g = c.is_begin-b.ensures ∙ ap is_begin c.kind_at.ensures.0 in
-    let s = c.stride-at.ensures.0 in
-    let z : wrong_at a.file.now l.at l.k l.b ≡ 0 = sym w.ensures ∙ c.if-n-ne0.false in (
-      omega arith,
-      (
-        omega (arith, begin_most c.kind_at.result, c.is_begin-b.ensures),
-        rw (add-one l.k, s, g) (sym (walk_on a.file.now l.at l.k l.b (omega arith) z) ∙ l.invariant.1.1),
-      ),
-    )
-
-pub returns : goal.returns
-returns c = let l = c.loop-at in
-    let a = c.args in
-    sym (walk_end a.file.now l.at l.k l.b (omega arith)) ∙ l.invariant.1.1
+loop-at-preserved c =
+    let file = c.args.file.now in
+    let steps = c.in-Some.ensures.steps in
+    let begun : c.from.result ≡ is_begin (kind_at file c.in-Some.at) = c.from.ensures ∙ begin_byte _ ∙ ap is_begin c.kind_at.ensures.0 in
+    record {
+      room = omega (arith, ap length steps);
+      begun = omega (arith, c.from.ensures, begin_most);
+      same =
+          rw (begun, add-one c.loop-at.walked.records)
+          (sym (over_on file _ _ _ _ _ steps (sym c.wrong.ensures ∙ c.in_default.is)) ∙ c.loop-at.invariant.same);
+    }

@@ -1,9 +1,0 @@
--- `check_lines::empty_input` meets its contract. Assumes nothing.
-use mathlib.Core.Path.{refl}
-use Rattle.words.specs.Zeros.{copies}
-use Rattle.words.proofs.Zeros.{filled}
-use Rattle.check_lines.proofs.empty_input.Goals as goal
-
-pub returns : goal.returns
-unfolding copies
-returns c = filled 0 4194304 _ refl

@@ -1,6 +1,0 @@
--- `decide::Spot::refused` meets its contract: the cases of `DecideCases`. Assumes nothing.
-use Rattle.decide.proofs.DecideCases.{moves}
-use Rattle.decide.proofs.Spot.refused.Goals as goal
-
-pub returns : goal.returns
-returns c = search moves

@@ -1,2 +1,0 @@
--- The laws of `files`.
-pub mod Fits

@@ -1,9 +1,0 @@
--- `print::wide` meets its contract: an i32 is an i64. Assumes nothing.
-use mir.Facts.{to_z-of_z, sfits_widen}
-use Rattle.print.proofs.wide.Goals as goal
-
-pub overflow_cast-result : goal.overflow_cast-result
-overflow_cast-result c = rw (to_z-of_z c.ranges.v) (sfits_widen tt c.ranges.v)
-
-pub returns : goal.returns
-returns c = rw (to_z-of_z c.ranges.v, to_z-of_z (sfits_widen tt c.ranges.v))

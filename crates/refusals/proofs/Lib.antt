@@ -1,0 +1,2 @@
+-- The laws of `refusals`.
+pub mod Determined

@@ -1,0 +1,2 @@
+-- The laws of `sections`.
+pub mod Determined

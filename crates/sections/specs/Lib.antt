@@ -1,0 +1,2 @@
+-- The definitions of `sections`.
+pub mod Look

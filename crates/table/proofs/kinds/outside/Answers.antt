@@ -1,6 +1,0 @@
--- `table::kinds::outside` meets its contract: the cases of `Stores`. Assumes nothing.
-use Rattle.table.proofs.Stores.{stores}
-use Rattle.table.proofs.kinds.outside.Goals as goal
-
-pub returns : goal.returns
-returns c = search stores

@@ -1,9 +1,0 @@
--- `ways::along` meets its contract: the cases of `LookCases`. Assumes nothing.
-use Rattle.ways.proofs.LookCases.{smalls}
-use Rattle.ways.proofs.along.Goals as goal
-
-pub returns-then-direction-eq0 : goal.returns-then-direction-eq0
-returns-then-direction-eq0 c = search smalls
-
-pub returns : goal.returns
-returns c = search smalls
