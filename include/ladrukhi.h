@@ -29,7 +29,7 @@ extern "C" {
 #define LADRUKHI_FRAMES 1104         /* a place has at most so many */
 #define LADRUKHI_CELLS 2048          /* a store has at most so many */
 #define LADRUKHI_SAVED_BYTES 12624   /* a saved session has at most so many; a buffer of this size never is too short */
-#define LADRUKHI_STACK_BYTES 262144  /* a thread with a stack of so many can make every call; the most that one took is about 230,000 (the gate measures it) */
+#define LADRUKHI_STACK_BYTES 262144  /* a thread with a stack of so many can make every call; the most that one took is about 200,000 (the gate measures it) */
 
 #define LADRUKHI_DOWN 0
 #define LADRUKHI_UP 1

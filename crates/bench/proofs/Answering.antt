@@ -25,18 +25,19 @@ use Rattle.program.proofs.Few.{cells_few}
 use Rattle.moves.specs.Places.{Dir, Place}
 use Rattle.moves.specs.Stores.{Store, Sized}
 use Rattle.moves.specs.Step.{start}
-use Rattle.moves.specs.Runs.{run, run_back}
+use Rattle.moves.specs.Runs.{Ran, run, run_back}
 use Rattle.moves.proofs.Theorems.{start_fits, run_fits, run_back_fits}
 use Rattle.fits.proofs.Few.{frames_few}
 use Rattle.session.proofs.Frames.{length_encode}
 use Rattle.session.specs.Session.{encode}
-use Rattle.machine.specs.Answers.{Ready, RunSays, StartSays}
+use Rattle.machine.specs.Answers.{Gives, Ready, RunSays, StartSays}
 use Rattle.machine.specs.Answers as machine
 use Rattle.machine.proofs.Giving.{Told}
 use Rattle.machine.proofs.OneAnswer.{not_both, before_ready, start_one}
 use Rattle.saved.specs.Answers.{ReadSays, SaveSays, SaveBefore, Found}
 use Rattle.saved.specs.Answers as saving
 use Rattle.words.proofs.Zeros.{length_copies}
+use Rattle.print.specs.Told.{reason_of}
 use Rattle.print.specs.Zeros.{noughts}
 use Rattle.print.specs.Lines.{Text, refused_line, accepted_line, steps_line, frame_lines, cell_lines}
 use Rattle.print.proofs.Rows.{Row, whole, within, size, size_append, refused_size, accepted_size, steps_size, at_size, frames_size, cells_size}
@@ -156,6 +157,15 @@ pub sound_few : {f : List ℕ} {q : Held} {σ : Store} → Sound f q σ → leng
 sound_few S = omega (arith, S.2.sized, cells_few S.2.accepts)
 
 -- ---- the cases of each command
+-- the number that is printed is the one that is given
+pub gives_reason : (told : Told) → (k : ℕ) × Gives told (reason_of told) k
+gives_reason (Ok tt) = (0, machine.done)
+gives_reason (Err r) = (r.label, machine.numbered)
+
+pub moved : {going : Tree → ℕ → Place → Store → Ran} {f : List ℕ} {q q' : Held} {σ σ' : Store} {b b' text text' : List ℕ} {r : Answer} {told : Told} {n m : ℕ}
+    → RunSays going f q σ n told m q' σ' → Keeps f q' σ' b text (moved_lines m (reason_of told) q') r b' text' → Moves going n f q σ b text r b' text'
+moved {told = told} u h = answers.moves u (gives_reason told).1 h
+
 pub deed : {f : List ℕ} {b b' text text' : List ℕ} {r : Option Answer} {c d : Deed} {q : Held} {σ : Store} → c ≡ d → Does f q σ b text r b' text' d → Does f q σ b text r b' text' c
 deed {f} {b} {b'} {text} {text'} {r} {q = q} {σ} e x = subst (λ (c : Deed). Does f q σ b text r b' text' c) (sym e) x
 
@@ -174,8 +184,8 @@ module _ {f b b' text text' : List ℕ} where
   keeps_room h = record { session = rw h.written (rests h.session); lines = within h.lines }
 
   does_room : {q : Held} {σ : Store} {c : Deed} {r : Option Answer} → Does f q σ b text r b' text' c → RoomOf r (length b') (length text')
-  does_room (answers.steps e (answers.moves u h)) = rw e (keeps_room h)
-  does_room (answers.backs e (answers.moves u h)) = rw e (keeps_room h)
+  does_room (answers.steps e (answers.moves u g h)) = rw e (keeps_room h)
+  does_room (answers.backs e (answers.moves u g h)) = rw e (keeps_room h)
   does_room (answers.sets l e h) = rw e (keeps_room h)
   does_room (answers.not_there l e e₁ e₂) = rw e tt
   does_room (answers.shows e h) = rw e (tells_room h)

@@ -11,9 +11,8 @@ use Rattle.moves.specs.Places.{Dir, Place}
 use Rattle.moves.specs.Stores.{Store}
 use Rattle.moves.specs.Step.{start}
 use Rattle.moves.specs.Runs.{Ran, run, run_back}
-use Rattle.machine.specs.Answers.{RunSays}
+use Rattle.machine.specs.Answers.{Gives, RunSays}
 use Rattle.saved.specs.Answers.{ReadSays, SaveSays}
-use Rattle.print.specs.Told.{reason_of}
 use Rattle.print.specs.Zeros.{noughts}
 use Rattle.print.specs.Lines.{Text, refused_line, accepted_line, steps_line, at_line, frame_lines, cell_lines}
 use Rattle.bench.specs.declared.answer.Answer.{Answer}
@@ -55,8 +54,8 @@ pub data Starts (f : List ℕ) (d : Dir) (b text : List ℕ) (r : Answer) (b' te
 
 -- `step` and `back`: a run of n steps, which ended at the place q' with the store σ'
 pub data Moves (going : Tree → ℕ → Place → Store → Ran) (n : ℕ) (f : List ℕ) (q : Held) (σ : Store) (b text : List ℕ) (r : Answer) (b' text' : List ℕ) : Type 0 where
-  moves : {m : ℕ} {told : Result (Unit {0}) Refusal} {q' : Held} {σ' : Store} → RunSays going f q σ n told m q' σ'
-      → Keeps f q' σ' b text (moved_lines m (reason_of told) q') r b' text' → Moves going n f q σ b text r b' text'
+  moves : {m reason k : ℕ} {told : Result (Unit {0}) Refusal} {q' : Held} {σ' : Store} → RunSays going f q σ n told m q' σ' → Gives told reason k
+      → Keeps f q' σ' b text (moved_lines m reason q') r b' text' → Moves going n f q σ b text r b' text'
 
 -- The other commands, on a session that was read as the place q and the store σ; none where the words were wrong after all.
 pub data Does (f : List ℕ) (q : Held) (σ : Store) (b text : List ℕ) (r : Option Answer) (b' text' : List ℕ) : Deed → Type 0 where

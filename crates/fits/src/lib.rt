@@ -139,6 +139,9 @@ impl Program<'_> {
     }
 
     // Whether the edge from x to z is the gap g, with the frames that stand there.
+    // (This and `edge_fits` are copied into `fits`, so that the program is never stored: where the table is seen to be lent alone, its
+    // callers make no second copy.)
+    #[inline(always)]
     #[tactic(auto, unfolding(crate::specs::Fits::gap_fits, crate::specs::Fits::ends))]
     fn gap_fits(self, place: &Place, x: u16, z: u16, g: u16) -> bool
         requires { place.now.count ≤ 1104 }
@@ -148,6 +151,7 @@ impl Program<'_> {
     }
 
     // Whether the edge from x to z is a gap, with the frames that stand there.
+    #[inline(always)]
     #[tactic(auto, unfolding(crate::specs::Fits::edge_fits))]
     fn edge_fits(self, place: &Place, x: u16, z: u16) -> bool
         requires { place.now.count ≤ 1104 }

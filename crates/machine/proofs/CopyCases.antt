@@ -2,18 +2,16 @@
 use Prim.Native.Nat.{ℕ, ◌-◌, ◌≤◌, min}
 use mathlib.Core.Path.{◌≡◌}
 use mathlib.Core.List.{List, ◌++◌}
-use lib.ListN.{length, take, drop, replicate, length-append, drop_of_length-le, length-replicate}
+use lib.ListN.{length, take, drop, replicate, length-append, length-drop, drop_of_length-le, length-replicate}
 use native.Mathlib.Omega.{arith}
 use Rattle.std.proofs.lemmas.List.{drop-replicate, drop_min, take_min, take_all, take_at, append-nil, length-take}
 use Rattle.machine.specs.Copies.{filled, over}
 
 module _ {A : Type 0} where
-  -- what was copied of s, and what stood behind
-  pub filled_is : (n : ℕ) (s c : List A) (z : A) (m : ℕ) → m ≡ min n (length s) → c ≡ take m s → c ++ drop m (replicate n z) ≡ filled n s z
-  unfolding filled
-  filled_is n s c z m e h =
-      let k : n - min n (length s) ≡ n - length s = omega arith in
-      rw (h, e, take_min n s, drop-replicate (min n (length s)) n z, k)
+  -- laid over an array of nothing but z: a copy, with z behind
+  pub filled_over : (n : ℕ) (s : List A) (z : A) → over s (replicate n z) ≡ filled n s z
+  unfolding filled over
+  filled_over n s z = rw (length-replicate n z, drop-replicate (length s) n z)
 
   pub over_is : (s d c : List A) (m : ℕ) → m ≡ min (length d) (length s) → c ≡ take m s → c ++ drop m d ≡ over s d
   unfolding over
@@ -31,6 +29,10 @@ module _ {A : Type 0} where
   pub length_filled : (n : ℕ) (s : List A) (z : A) → length (filled n s z) ≡ n
   unfolding filled
   length_filled n s z = omega (arith, length-append (take n s) (replicate (n - length s) z), length-take n s, length-replicate (n - length s) z)
+
+  pub length_over : (s d : List A) → length (over s d) ≡ length d
+  unfolding over
+  length_over s d = omega (arith, length-append (take (length d) s) (drop (length s) d), length-take (length d) s, length-drop (length s) d)
 
   -- what is copied back is as much as there was
   pub over_same : (s zs d : List A) → length s ≡ length d → over (s ++ zs) d ≡ s

@@ -18,7 +18,7 @@ use Rattle.machine.specs.declared.Ran.{Ran}
 use Rattle.machine.specs.Walk.{Stand, stand_of, stand_at, placed_at, sight_in, Gone, go_of, Goes}
 
 -- ---- calls and frames in one number
-parts : (c n : ℕ) → n < 4096 → (calls_in (depth_of c n) ≡ c) × (count_in (depth_of c n) ≡ n)
+pub parts : (c n : ℕ) → n < 4096 → (calls_in (depth_of c n) ≡ c) × (count_in (depth_of c n) ≡ n)
 parts c n h = (omega arith, omega arith)
 
 module _ (R : Sight → Store → Ruled) (n : ℕ) where

@@ -54,13 +54,15 @@ fn went(
     requires { place.count ≤ 1104 }
     ensures { Copied file.now table.now records place store.old n result store.new }
 {
-    let bytes = copies::padded(file);
+    let mut bytes = [0; 32784];
+    copies::lay(file, &mut bytes);
     let arrays = program::arrays::arrays(file);
     let map = ways::map::map(&bytes, table, records);
     let calls = walk::calls(&place.kinds[..place.count]);
-    let mut cells = copies::widened(store);
+    let mut cells = [0; 2048];
+    copies::lay(store, &mut cells);
     let ran = walk::go(&bytes, &map, &arrays, &mut cells, place, calls, n);
-    copies::restored(&cells, store);
+    copies::lay(&cells, store);
     ran
 }
 

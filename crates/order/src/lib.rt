@@ -5,7 +5,7 @@ ghost use Rattle.std.specs.Prelude.{◌≡◌};
 ghost use Rattle.order.specs.Order.{order_of};
 ghost use Rattle.records.specs.Walk.{offsets, kinds_at};
 
-use open::Open;
+pub use open::Open;
 use records::walk::{Offsets, kind_at};
 
 mod open;

@@ -32,11 +32,12 @@ pub enum Phase {
 }
 
 // The open constructs, outermost first, and the phase.
-// Stays: (a) the form that document 01 names: a small array by value with a count.
+// Stays: (a) the form that document 01 names: a small array by value with a count. (All fields are bytes: where there are bytes between
+// them, each record copies those too, and the processor waits for it.)
 #[derive(Drop)]
 pub struct Open {
     frames: [Frame; DEEP],
-    count: usize,
+    count: u8,
     phase: Phase,
 }
 
@@ -61,7 +62,7 @@ impl Open {
 
     // None open, and nothing has come.
     #[tactic(auto, unfolding(crate::specs::Stack::stack))]
-    pub fn new() -> Self
+    pub(crate) fn new() -> Self
         ensures { result ≡ at Phase.Start [] }
     {
         Self {
@@ -125,8 +126,8 @@ impl Open {
         ensures { seen result ≡ opened frame self.phase self.opens }
     {
         match self.phase {
-            Phase::Opened | Phase::Stated if self.count < DEEP => {
-                self.frames[self.count] = frame;
+            Phase::Opened | Phase::Stated if usize::from(self.count) < DEEP => {
+                self.frames[usize::from(self.count)] = frame;
                 self.count += 1;
                 self.at(Phase::Opened)
             }
@@ -140,7 +141,7 @@ impl Open {
         ensures { result ≡ meets frame self.now.phase self.now.opens }
     {
         match self.phase {
-            Phase::Stated if self.count != 0 => self.frames[self.count - 1] == frame,
+            Phase::Stated if self.count != 0 => self.frames[usize::from(self.count) - 1] == frame,
             _ => false,
         }
     }
@@ -153,7 +154,7 @@ impl Open {
         if !self.meets(first) {
             return self.at(Phase::Misplaced);
         }
-        self.frames[self.count - 1] = second;
+        self.frames[usize::from(self.count) - 1] = second;
         self.at(Phase::Opened)
     }
 
@@ -189,7 +190,7 @@ impl Open {
 
     // A record of the kind of this number comes.
     #[tactic(auto, unfolding(crate::specs::Order::next))]
-    pub fn after(self, number: usize) -> Self
+    pub(crate) fn after(self, number: usize) -> Self
         ensures { seen result ≡ next self number }
     {
         match Kind::of(number) {
@@ -199,14 +200,14 @@ impl Open {
     }
 
     // No order is valid after the records that came.
-    pub fn is_misplaced(&self) -> bool
+    pub(crate) fn is_misplaced(&self) -> bool
         ensures { result ≡ is_none (seen self.now) }
     {
         self.phase == Phase::Misplaced
     }
 
     // The records may stop here.
-    pub fn is_whole(&self) -> bool
+    pub(crate) fn is_whole(&self) -> bool
         ensures { result ≡ whole self.now.phase }
     {
         self.phase == Phase::Ended

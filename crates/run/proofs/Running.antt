@@ -58,7 +58,7 @@ on_zeros : {f : List ℕ} {t : Tree} {n : ℕ} → Accepts f t → n ≡ cells t
 on_zeros A e = rw e (report.ran A)
 
 -- the number of what is told
-reason_is : {told : Told} {n k : ℕ} → Gives told n k → reason_of told ≡ n
+pub reason_is : {told : Told} {n k : ℕ} → Gives told n k → reason_of told ≡ n
 reason_is done = refl
 reason_is numbered = refl
 
